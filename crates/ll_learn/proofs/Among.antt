@@ -1,12 +1,13 @@
 -- Sites that are among others.
-use Rattle.std.proofs.Common.{◌≡◌, ℕ, zero, suc, List, [], ◌∷◌, ◌++◌, Some, ap, ◌∙◌, sym, rules}
+use Rattle.std.proofs.Common.{◌≡◌, ℕ, zero, suc, List, [], ◌∷◌, ◌++◌, Some, ap, ◌∙◌, subst, sym, rules}
 use Rattle.std.specs.Prelude.{slice_get}
 use Rattle.std.proofs.lemmas.List.Elements.{All-push}
 use Rattle.ll_seq.specs.State.{State, root}
 use Rattle.ll_seq.specs.Tree.{named}
 use Rattle.ll_learn.specs.declared.site.Site.{Site}
 use Rattle.ll_learn.specs.declared.site.Sites.{Sites}
-use Rattle.ll_learn.specs.Sites.{AreSites, IsSite, may_grant}
+use Rattle.ll_learn.specs.Sites.{AreSites, IsSite, IsSpelt, may_grant}
+use Rattle.ll_learn.proofs.SpeltPaths.{spelt_root}
 
 -- an element in front
 pub get_front : {A : Type 0} (xs ys : List A) (i : ℕ) (x : A) → slice_get xs i ≡ Some x
@@ -33,6 +34,7 @@ pub one_site : (s : State) (all : ℕ) (sites : Sites) (site : Site) → site.pa
     → site.may.0 ≡ all → sites.rows.items ≡ site ∷ [] → AreSites s all sites
 one_site s all sites site path inode may e =
     let is : IsSite s all site = record {
+      spelt = subst IsSpelt (sym path) spelt_root;
       named = ap (named s) path ∙ ap Some (sym inode);
       may = may ∙ sym (ap (may_grant s all) inode);
     } in

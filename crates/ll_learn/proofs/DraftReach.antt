@@ -25,7 +25,7 @@ both true b e = (refl, e)
 both false b e = absurd (cc e)
 
 -- one that passes the test
-one_that : {A : Type 0} (f : A → Bool) (xs : List A) → list_any f xs ≡ true → (x : A) × Contains xs x × (f x ≡ true)
+pub one_that : {A : Type 0} (f : A → Bool) (xs : List A) → list_any f xs ≡ true → (x : A) × Contains xs x × (f x ≡ true)
 one_that f [] e = absurd (cc e)
 one_that f (x ∷ xs) e = by (or_split (f x) (list_any f xs) e) (one_that f xs)
   where
@@ -36,11 +36,11 @@ one_that f (x ∷ xs) e = by (or_split (f x) (list_any f xs) e) (one_that f xs)
     by (inr a) rest = let w = rest a in (w.0, (suc w.1.0, omega arith, w.1.2), w.2)
 
 -- the path, cut at the last inode that passes the test
-record CutAt (may : ℕ → Bool) (inode : ℕ) (inodes : List ℕ) : Type 0 where
-  front : List ℕ
-  behind : List ℕ
-  parts : inodes ≡ front ++ inode ∷ behind
-  last : list_any may behind ≡ false
+pub record CutAt (may : ℕ → Bool) (inode : ℕ) (inodes : List ℕ) : Type 0 where
+  pub front : List ℕ
+  pub behind : List ℕ
+  pub parts : inodes ≡ front ++ inode ∷ behind
+  pub last : list_any may behind ≡ false
 
 none_last : (may : ℕ → Bool) (xs : List ℕ) → last_of may xs ≡ None → list_any may xs ≡ false
 none_last may [] e = refl
@@ -52,7 +52,8 @@ none_last may (x ∷ xs) e = by (last_of may xs) (may x) e (none_last may xs)
     by None true e rest = absurd (cc e)
     by None false e rest = rest refl
 
-cut_last : (may : ℕ → Bool) (inode : ℕ) (xs : List ℕ) → is_some_at (last_of may xs) inode ≡ true → CutAt may inode xs
+pub cut_last : (may : ℕ → Bool) (inode : ℕ) (xs : List ℕ) → is_some_at (last_of may xs) inode ≡ true
+    → CutAt may inode xs
 cut_last may inode [] e = absurd (cc e)
 cut_last may inode (x ∷ xs) e = by (last_of may xs) refl (may x) e (cut_last may inode xs)
   where

@@ -4,7 +4,7 @@ use Rattle.std.specs.Prelude.{Option, Some, None, length, take, slice_get, refl}
 use Rattle.std.specs.Prelude.{Result, Ok, Err, IfErr, IsErrAnd}
 use Rattle.std.specs.Option.{option_or}
 use Rattle.ll_learn.proofs.There.{WereKnown, asked_there, asks_joined, asks_same, asks_weaker, known_still}
-use Rattle.ll_learn.proofs.There.{there_still}
+use Rattle.ll_learn.proofs.There.{moves_joined, moves_same, moves_weaker, there_now, there_still}
 use Rattle.std.proofs.Common.{ap, arith, eq-eqb, get_or, length-append, subst, sym, ◌∙◌}
 use Rattle.std.proofs.lemmas.List.{length-take-le, take_all, take_more}
 use Rattle.std.proofs.lemmas.Option.{slice_get_read}
@@ -32,7 +32,7 @@ use Rattle.ll_learn.specs.Outside.{first_outside, outside_of}
 use Rattle.ll_learn.specs.Passing.{Allows, AllowsAll, IsOpen, Openings, is_client, joins}
 use Rattle.ll_learn.specs.Passing.{none_known, opened_at}
 use Rattle.ll_learn.specs.Bound.{WereThere}
-use Rattle.ll_learn.specs.There.{ComeFrom, IsAskedIn}
+use Rattle.ll_learn.specs.There.{ComeFrom, IsAskedIn, IsOfPath, MovesMore}
 use Rattle.ll_learn.specs.Watched.{is_watched}
 use Rattle.ll_learn.specs.Watching.{IsWatch, joined, opened_behind}
 
@@ -108,6 +108,7 @@ pub record HasGathered (s : State) (client history : ℕ) (old : Needs) (front :
   pub rooted : AreRooted old → AreRooted needs
   pub opened : WereKnown s front (opened_behind s none_known front)
   pub asks : ComeFrom s front old needs
+  pub moves : MovesMore (WereThere s front) old needs
   pub outside : needs.outside ≡ option_or old.outside (first_outside (is_client client) history 1 front)
 
 pub starts : (s : State) (client history : ℕ) (old : Needs) (clients : List Watched)
@@ -122,6 +123,7 @@ starts s client history old clients watch = record {
   rooted = λ rooted. rooted;
   opened = λ who fd inodes is. absurd cc;
   asks = asks_same (WereThere s []) old old refl;
+  moves = moves_same (WereThere s []) old old refl;
   outside = sym (or_none old.outside);
 }
   where
@@ -178,6 +180,11 @@ module _ (s : State) (client history : ℕ) (old : Needs) (front : List Entry) (
             so_far.asks)
             (asks_weaker (IsAskedIn (state_after s front) known e.client) (WereThere s (front ++ e ∷ [])) needs more
             (asked_there s front e known e.client so_far.opened) at.asks);
+        moves = moves_joined (WereThere s (front ++ e ∷ [])) old needs more
+            (moves_weaker (WereThere s front) (WereThere s (front ++ e ∷ [])) old needs (there_still s front e)
+            so_far.moves)
+            (moves_weaker (IsOfPath (state_after s front)) (WereThere s (front ++ e ∷ [])) needs more
+            (λ inodes is. there_now s front e inodes is.0 is.1) at.moves);
         outside = goes.outside
             ∙ (λ i. option_or (so_far.outside i) (outside_of is_on e (number i)))
             ∙ sym (or_again old.outside (first_outside (is_client client) history 1 front) _)

@@ -23,13 +23,19 @@ use Rattle.ll_laws.proofs.Chains.{chain_front}
 use Rattle.ll_laws.proofs.Gain.{after_tree, named_below, start_tree}
 use Rattle.ll_laws.proofs.Relevant.{is_one_of_all}
 use Rattle.ll_laws.proofs.Trees.{IsTree, granted_on}
-use Rattle.ll_learn.specs.Bound.{AllowsEach, AreDue, BeginAt, IsHoldable, ChargedIsLeast, IsPart, IsWithin}
-use Rattle.ll_learn.specs.Bound.{MovesAreTheirs, NeedIsReached, Part, PassesEach, WereThere}
+use Rattle.ll_learn.specs.Bound.{AllowsEach, BeginAt, IsHoldable, ChargedIsLeast, IsPart}
+use Rattle.ll_learn.specs.Bound.{MovesAreTheirs, NeedIsReached, Part, PassesEach, ReachesNoMore, RestrictsNoMore}
+use Rattle.ll_learn.specs.Bound.{WereThere}
+use Rattle.ll_learn.specs.Charges.{WereInOne}
 use Rattle.ll_learn.specs.Passing.{IsOpen, Passes, is_client, none_known}
 use Rattle.ll_learn.proofs.EarlierReach.{Earlier, earlier, named_kind, chain_prefix, reach_then}
 use Rattle.ll_learn.proofs.SameReplies.{first_twins, same_replies}
 
 -- ---- one part
+
+pub part_tree : (part : Part) → IsPart part → IsTree part.cut
+part_tree part is =
+    subst IsTree (sym is.leads) (after_tree (start is.rules is.room) is.early (start_tree is.rules is.room))
 
 granted_reached : (part : Part) → IsPart part → (layer : Layer) → Passes part.cut part.client part.entries layer
     → (front behind : List ℕ) (inode right : ℕ) → WereThere part.cut part.entries (front ++ inode ∷ behind)
@@ -41,7 +47,7 @@ granted_reached part is layer passes front behind inode right there granted rest
     restricted none granted relevant)
   where
     tree : IsTree part.cut
-    tree = subst IsTree (sym is.leads) (after_tree (start is.rules is.room) is.early (start_tree is.rules is.room))
+    tree = part_tree part is
 
     back : Earlier part.cut (state_after part.cut there.early) layer inode right
     back = earlier layer inode right part.cut _ (is_client part.client) none_known
@@ -82,23 +88,33 @@ can_alike s t same kinds inode right can = (
   ap (λ (ns : Map nat_cmp Node). is_relevant (kind_of (record t { nodes = ns }) inode) right) (sym kinds) ∙ can.1,
 )
 
+-- what passes is allowed
+pub passes_allow : (s : State) (parts : List Part) → BeginAt s parts → (layer : Layer) → PassesEach parts layer
+    → AllowsEach parts layer
+passes_allow s parts begin layer passes part among =
+    (same_replies part.cut part.client part.entries (begin.are part among).learnable layer).1 (passes part among)
+
+-- what is granted on a path that was there
+pub there_reached : (s : State) (parts : List Part) → BeginAt s parts → (layer : Layer) → PassesEach parts layer
+    → (front behind : List ℕ) (inode right : ℕ) → WereInOne parts (front ++ inode ∷ behind)
+    → grants_on layer (front ++ inode ∷ behind) right ≡ true → restricts layer right ≡ true
+    → list_any (has_rule layer right) behind ≡ false → IsHoldable s inode right → InReach s layer inode right
+there_reached s parts begin layer passes front behind inode right was granted restricted none can =
+    let entries = begin.entries was.0 was.1 in
+    let nodes = begin.nodes was.0 was.1 in
+    reach_alike was.0.cut s entries nodes layer inode right
+    (granted_reached was.0 (begin.are was.0 was.1) layer (passes was.0 was.1) front behind inode right was.2 granted
+    restricted none (can_alike s was.0.cut (sym entries) (sym nodes) inode right can))
+
 pub need_is_reached : NeedIsReached
 need_is_reached s parts begin layer passes front behind inode right required restricted none can =
-    reach_alike required.part.cut s (begin.entries required.part required.among)
-    (begin.nodes required.part required.among) layer inode right
-    (granted_reached required.part (begin.are required.part required.among) layer
-    (passes required.part required.among) front behind inode right required.there
-    (required.granted layer allows) restricted none
-    (can_alike s required.part.cut (sym (begin.entries required.part required.among))
-    (sym (begin.nodes required.part required.among)) inode right can))
-  where
-    allows : AllowsEach parts layer
-    allows part among = (same_replies part.cut part.client part.entries (begin.are part among).learnable layer).1
-        (passes part among)
+    there_reached s parts begin layer passes front behind inode right
+    (required.part, required.among, required.there)
+    (required.granted layer (passes_allow s parts begin layer passes)) restricted none can
 
 -- ---- the least layer
 
-none_of_these : (f g : ℕ → Bool) → ((x : ℕ) → f x ≡ true → g x ≡ true) → (xs : List ℕ) → list_any g xs ≡ false
+pub none_of_these : (f g : ℕ → Bool) → ((x : ℕ) → f x ≡ true → g x ≡ true) → (xs : List ℕ) → list_any g xs ≡ false
     → list_any f xs ≡ false
 none_of_these f g more [] none = refl
 none_of_these f g more (x ∷ xs) none = by (f x) (g x) refl refl none (none_of_these f g more xs)
@@ -129,10 +145,9 @@ reach_below s layer above right r back inode ends relevant = record {
       (λ restricted rule. chain_front s (has_rule layer right) r.path back root above r.names rule) r.granted;
 }
 
-module _ (s : State) (parts : List Part) (begin : BeginAt s parts) (may : ℕ → ℕ → Bool)
-    (can : (inode right : ℕ) → right < 15 → may right inode ≡ true → IsHoldable s inode right) (least : Layer)
-    (due : AreDue parts may least) (layer : Layer) (within : IsWithin may layer) (passes : PassesEach parts layer)
-    (inode right : ℕ) (r : InReach s least inode right) (below : right < 15) where
+module _ (s : State) (least layer : Layer) (more : RestrictsNoMore layer least)
+    (ruled : (inode right : ℕ) → right < 15 → has_rule least right inode ≡ true → restricts layer right ≡ true
+    → InReach s layer inode right) (inode right : ℕ) (r : InReach s least inode right) (below : right < 15) where
   -- where the right isn't restricted it is granted everywhere
   reached_freely : restricts layer right ≡ false → InReach s layer inode right
   reached_freely free = record {
@@ -143,26 +158,31 @@ module _ (s : State) (parts : List Part) (begin : BeginAt s parts) (may : ℕ �
   }
 
   -- and else the way to the rule's inode goes on to what lies below it
-  reached_by_rule : restricts layer right ≡ true → restricts least right ≡ true → InReach s layer inode right
-  reached_by_rule held least_held =
-      let ruled : list_any (has_rule least right) (ancestors s r.path) ≡ true =
-      sym (ap (λ b. not b || list_any (has_rule least right) (ancestors s r.path)) least_held) ∙ r.granted in
-      let c = cut s (has_rule least right) r.path root inode r.names ruled in
-      let why = due.due c.at right below c.passes in
-      reach_below s layer c.at right (need_is_reached s parts begin layer passes why.front why.behind c.at right
-      why.required held
-      (none_of_these (has_rule layer right) (may right) (λ x h. within x right below h) why.behind why.last)
-      (can c.at right below (due.within c.at right below c.passes))) c.back inode c.ends r.relevant
+  reached_by_rule : restricts layer right ≡ true → InReach s layer inode right
+  reached_by_rule held =
+      let on_path : list_any (has_rule least right) (ancestors s r.path) ≡ true =
+      sym (ap (λ b. not b || list_any (has_rule least right) (ancestors s r.path)) (more right below held)) ∙ r.granted
+      in
+      let c = cut s (has_rule least right) r.path root inode r.names on_path in
+      reach_below s layer c.at right (ruled c.at right below c.passes held) c.back inode c.ends r.relevant
 
-pub charged_is_least : ChargedIsLeast
-charged_is_least s parts begin may can least due layer within passes more inode right r =
-    by (restricts layer right) refl
+-- what reaches each right of each rule of a layer reaches what the layer does
+pub rules_reached : (s : State) (least layer : Layer) → RestrictsNoMore layer least
+    → ((inode right : ℕ) → right < 15 → has_rule least right inode ≡ true → restricts layer right ≡ true
+    → InReach s layer inode right) → ReachesNoMore s least layer
+rules_reached s least layer more ruled inode right r = by (restricts layer right) refl
   where
     below : right < 15
     below = each_below all_rights right below_all (is_one_of_all (kind_of s inode) right r.relevant)
 
     by : (b : Bool) → restricts layer right ≡ b → InReach s layer inode right
-    by false free = reached_freely s parts begin may can least due layer within passes inode right r below free
-    by true held =
-        reached_by_rule s parts begin may can least due layer within passes inode right r below held
-        (more right below held)
+    by false free = reached_freely s least layer more ruled inode right r below free
+    by true held = reached_by_rule s least layer more ruled inode right r below held
+
+pub charged_is_least : ChargedIsLeast
+charged_is_least s parts begin may can least due layer within passes more =
+    rules_reached s least layer more (λ inode right below rule held.
+    let why = due.due inode right below rule in
+    need_is_reached s parts begin layer passes why.front why.behind inode right why.required held
+    (none_of_these (has_rule layer right) (may right) (λ x h. within x right below h) why.behind why.last)
+    (can inode right below (due.within inode right below rule)))

@@ -10,8 +10,14 @@ pub mod EarlierReach
 pub mod LeastReach
 pub mod RequiredRights
 pub mod Among
+pub mod SpeltPaths
+pub mod ListedNames
+pub mod AllSites
+pub mod ScopeLayers
 pub mod Columns
 pub mod Places
+pub mod Spreads
+pub mod MendedReach
 pub mod Solutions
 pub mod Asking
 pub mod Gathered
@@ -23,3 +29,7 @@ pub mod There
 pub mod Watches
 pub mod DraftReach
 pub mod OutsideMoves
+pub mod Cuts
+pub mod ManyParts
+pub mod Framing
+pub mod Unlearning

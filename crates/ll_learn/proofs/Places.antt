@@ -114,7 +114,7 @@ some_at : (o : Option ℕ) (F : ℕ → Type 0) (i : ℕ) → IfSome o F → is_
 some_at None F i found e = absurd (cc e)
 some_at (Some x) F i found e = subst F (eqb-true x i e) found
 
-place_may : (scope : Scope) (right : ℕ) (inodes : List ℕ) (inode : ℕ)
+pub place_may : (scope : Scope) (right : ℕ) (inodes : List ℕ) (inode : ℕ)
     → is_some_at (place_of scope right inodes) inode ≡ true → may_have scope right inode ≡ true
 place_may scope right inodes inode e = (some_at (place_of scope right inodes)
     (λ i. (may_have scope right i ≡ true) × (list_any (λ j. j == i) inodes ≡ true)) inode

@@ -15,14 +15,14 @@ use Rattle.ll_rules.specs.Layer.{Layer, grants_on, has_rule, restricts}
 use Rattle.ll_decide.proofs.OneByOne.{holds_none}
 use Rattle.ll_rights.specs.declared.access.Access.{Access}
 use Rattle.ll_learn.specs.Columns.{is_at}
-use Rattle.ll_learn.specs.Draft.{IsInScope, IsLeast, IsOf, IsReason, IsScope, IsUnmet, has, is_gainless, is_granted}
+use Rattle.ll_learn.specs.Draft.{IsInScope, IsLeast, IsOf, IsNeed, IsScope, IsUnmet, has, is_gainless, is_granted}
 use Rattle.ll_learn.specs.Draft.{is_met, is_restricted}
 use Rattle.ll_learn.specs.Draft.{may_have, right_at, without}
 use Rattle.ll_learn.specs.Least.{AreNeeded}
 use Rattle.ll_learn.specs.Needs.{GainsNothing, IsGranted, Meets}
 use Rattle.ll_learn.specs.declared.draft.Draft.{Draft}
-use Rattle.ll_learn.specs.declared.draft.Reason.{Reason}
-use Rattle.ll_learn.specs.declared.draft.Reason.TheVariants.{Asks, Moves}
+use Rattle.ll_learn.specs.declared.draft.Need.{Need}
+use Rattle.ll_learn.specs.declared.draft.Need.TheVariants.{Asks, Moves}
 use Rattle.ll_learn.specs.declared.draft.Scope.{Scope}
 use Rattle.ll_learn.specs.declared.needs.Asked.{Asked}
 use Rattle.ll_learn.specs.declared.needs.Moved.{Moved}
@@ -50,6 +50,7 @@ pub none_least : (scope : Scope) (needs : Needs) (right : ℕ) (held : ℕ → B
     → is_restricted scope right ≡ false → IsLeast scope needs right held
 none_least scope needs right held none free = record {
   placed = λ inode at. absurd (both_ways (held inode) (none inode) at);
+  derived = λ inode at. absurd (both_ways (held inode) (none inode) at);
   met = λ so. absurd (both_ways (is_restricted scope right) free so);
   needed = λ inode at. absurd (both_ways (held inode) (none inode) at);
 }
@@ -224,8 +225,8 @@ none_meets scope needs number layer unmet inside meets =
 
 -- ---- reasons
 
-pub of_asks : (held other : ℕ → Bool) (right : ℕ) (asks given : List Asked) (moves : List Moved) (reason : Reason)
-    → held ≡ other → given ≡ asks → IsReason held right given [] reason → IsReason other right asks moves reason
+pub of_asks : (held other : ℕ → Bool) (right : ℕ) (asks given : List Asked) (moves : List Moved) (need : Need)
+    → held ≡ other → given ≡ asks → IsNeed held right given [] need → IsNeed other right asks moves need
 of_asks held other right asks given moves (Asks origin) same e is = (
   is.0,
   is.1,
@@ -239,8 +240,8 @@ of_asks held other right asks given moves (Moves origin) same e is = absurd (no_
     no_item zero m at = cc
     no_item (suc k) m at = cc
 
-pub of_moves : (held other : ℕ → Bool) (right : ℕ) (asks : List Asked) (moves given : List Moved) (reason : Reason)
-    → held ≡ other → given ≡ moves → IsReason held right [] given reason → IsReason other right asks moves reason
+pub of_moves : (held other : ℕ → Bool) (right : ℕ) (asks : List Asked) (moves given : List Moved) (need : Need)
+    → held ≡ other → given ≡ moves → IsNeed held right [] given need → IsNeed other right asks moves need
 of_moves held other right asks moves given (Moves origin) same e is = (
   is.0,
   is.1,
@@ -255,8 +256,8 @@ of_moves held other right asks moves given (Asks origin) same e is = absurd (no_
     no_item (suc k) a at = cc
 
 pub some_of_moves : (held other : ℕ → Bool) (right : ℕ) (asks : List Asked) (moves given : List Moved)
-    (found : Option Reason) → held ≡ other → given ≡ moves → IfSome found (IsReason held right [] given)
-    → IfSome found (IsReason other right asks moves)
+    (found : Option Need) → held ≡ other → given ≡ moves → IfSome found (IsNeed held right [] given)
+    → IfSome found (IsNeed other right asks moves)
 some_of_moves held other right asks moves given None same e is = tt
-some_of_moves held other right asks moves given (Some reason) same e is =
-    of_moves held other right asks moves given reason same e is
+some_of_moves held other right asks moves given (Some need) same e is =
+    of_moves held other right asks moves given need same e is

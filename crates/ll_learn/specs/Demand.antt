@@ -18,7 +18,7 @@ use Rattle.ll_learn.specs.declared.watch.Watched.{Watched}
 use Rattle.ll_learn.specs.Needs.{AreRooted, Meets}
 use Rattle.ll_learn.specs.Outside.{outside_of}
 use Rattle.ll_learn.specs.Passing.{Allows, Openings, joins, opened_at}
-use Rattle.ll_learn.specs.There.{AsksMore, IsAskedIn}
+use Rattle.ll_learn.specs.There.{AsksMore, IsAskedIn, IsOfPath, MovesMore}
 use Rattle.ll_learn.specs.Watched.{is_watched}
 use Rattle.ll_learn.specs.Watching.{IsWatch}
 
@@ -53,4 +53,5 @@ pub record GoesOn (s : State) (is_on : ℕ → Bool) (known : Openings) (e : Ent
   pub watch : IsWatch (after s e) (joins is_on e) (opened_at s known e) clients
   pub rooted : AreRooted old → AreRooted new
   pub asks : AsksMore (IsAskedIn s known e.client) old new
+  pub moves : MovesMore (IsOfPath s) old new
   pub outside : new.outside ≡ option_or old.outside (outside_of is_on e origin)

@@ -1,6 +1,6 @@
 -- Layers that are being learned: which rights they hold where, and what is needed of each right. own
 use Rattle.std.specs.Prelude.{◌≡◌, ◌<◌, ◌==◌, ◌&&◌, ◌||◌, ℕ, Bool, true, false, not, List, [], ◌∷◌, Option, Some, None}
-use Rattle.std.specs.Prelude.{find, slice_get, slice_index_or, if◌then◌else◌}
+use Rattle.std.specs.Prelude.{Contains, find, slice_get, slice_index_or, if◌then◌else◌}
 use Rattle.std.specs.List.{list_all, list_any}
 use Rattle.std.specs.Option.{option_or}
 use Rattle.ll_rights.specs.declared.access.Access.{Access}
@@ -10,8 +10,8 @@ use Rattle.ll_rules.specs.Layer.{Layer, has_rule}
 use Rattle.ll_seq.specs.State.{root}
 use Rattle.ll_learn.specs.declared.draft.Draft.{Draft}
 use Rattle.ll_learn.specs.declared.draft.Scope.{Scope}
-use Rattle.ll_learn.specs.declared.draft.Reason.{Reason}
-use Rattle.ll_learn.specs.declared.draft.Reason.TheVariants.{Asks, Moves}
+use Rattle.ll_learn.specs.declared.draft.Need.{Need}
+use Rattle.ll_learn.specs.declared.draft.Need.TheVariants.{Asks, Moves}
 use Rattle.ll_learn.specs.declared.needs.Asked.{Asked}
 use Rattle.ll_learn.specs.declared.needs.Moved.{Moved}
 use Rattle.ll_learn.specs.declared.needs.Needs.{Needs}
@@ -82,6 +82,19 @@ abbrev pub is_placed : Scope → Needs → ℕ → ℕ → Bool
 is_placed scope needs right inode =
     is_asked_at scope right needs.asks.items inode || is_mended_at scope right needs.moves.items inode
 
+-- From the inodes that hold the right on to where it has to be mended: a node moves to below such an inode, and this is
+-- the place of the node's own path
+pub data IsSpread (scope : Scope) (right : ℕ) (moves : List Moved) (held : ℕ → Bool) : ℕ → Type 0 where
+  stands : (inode : ℕ) → held inode ≡ true → IsSpread scope right moves held inode
+  mended : (m : Moved) (above inode : ℕ) → Contains moves m → holds m.rights.0 right ≡ true
+      → Contains m.into.items above → IsSpread scope right moves held above
+      → is_some_at (place_of scope right m.from.items) inode ≡ true → IsSpread scope right moves held inode
+
+-- the right is asked where this is the place, or has to be mended there
+abbrev pub IsDerived : Scope → Needs → ℕ → ℕ → Type 0
+IsDerived scope needs right =
+    IsSpread scope right needs.moves.items (is_asked_at scope right needs.asks.items)
+
 -- ---- One right, that the rules of these inodes hold
 
 -- of these inodes but one
@@ -104,6 +117,7 @@ is_met held right needs =
 -- what is needed of the right is met, by rules that stand in its places, and not without any one of them
 pub record IsLeast (scope : Scope) (needs : Needs) (right : ℕ) (held : ℕ → Bool) : Type 0 where
   pub placed : (inode : ℕ) → held inode ≡ true → is_placed scope needs right inode ≡ true
+  pub derived : (inode : ℕ) → held inode ≡ true → IsDerived scope needs right inode
   pub met : is_restricted scope right ≡ true → is_met held right needs ≡ true
   pub needed : (inode : ℕ) → held inode ≡ true → is_met (without inode held) right needs ≡ false
 
@@ -129,8 +143,8 @@ IsCharged scope needs draft = (inode right : ℕ) → right < 15 → has draft r
 -- ---- Why a right stands in a rule
 
 -- which ask isn't granted, or which move lets the right be gained
-abbrev pub IsReason : (ℕ → Bool) → ℕ → List Asked → List Moved → Reason → Type 0
-IsReason held right asks moves (Asks origin) = (number : ℕ) × (a : Asked) × (slice_get asks number ≡ Some a)
+abbrev pub IsNeed : (ℕ → Bool) → ℕ → List Asked → List Moved → Need → Type 0
+IsNeed held right asks moves (Asks origin) = (number : ℕ) × (a : Asked) × (slice_get asks number ≡ Some a)
     × (a.origin ≡ origin) × (is_granted held right a ≡ false)
-IsReason held right asks moves (Moves origin) = (number : ℕ) × (m : Moved) × (slice_get moves number ≡ Some m)
+IsNeed held right asks moves (Moves origin) = (number : ℕ) × (m : Moved) × (slice_get moves number ≡ Some m)
     × (m.origin ≡ origin) × (is_gainless held right m ≡ false)

@@ -1,64 +1,145 @@
--- What is learned from a history. own
-use Rattle.std.specs.Prelude.{⊤, ◌≡◌, ◌-◌, ◌≤◌, ℕ, true, false, List, Some, drop, slice_get, take}
-use Rattle.ll_rights.specs.Map.{has}
+-- What is learned from histories. own
+use Rattle.std.specs.Prelude.{⊤, ◌≡◌, ◌⊎◌, ◌<◌, ◌≤◌, ◌+◌, ◌-◌, ℕ, ◌==◌, ◌&&◌, Bool, true, false, not, List, [], map}
+use Rattle.std.specs.Prelude.{Some, None, All, Contains, drop, length, slice_get, take}
+use Rattle.std.specs.List.{list_any}
+use Rattle.ll_rights.specs.Access.{holds}
 use Rattle.ll_rules.specs.Layer.{Layer}
+use Rattle.ll_path.specs.Path.{Path}
 use Rattle.ll_seq.specs.declared.reply.Entry.{Entry}
 use Rattle.ll_seq.specs.History.{IsLegal, is_connect, state_after}
 use Rattle.ll_seq.specs.State.{State}
-use Rattle.ll_learn.specs.declared.profile.Profile.{Profile}
+use Rattle.ll_seq.specs.Tree.{named}
 use Rattle.ll_audit.specs.Audit.{IsFirstIllegal}
-use Rattle.ll_audit.specs.declared.fault.AuditFault.{AuditFault}
-use Rattle.ll_audit.specs.declared.fault.AuditFault.TheVariants as audit
-use Rattle.ll_learn.specs.declared.learned.Unlearned.{Unlearned}
-use Rattle.ll_learn.specs.declared.learned.Unlearned.TheVariants.{NoClient, Illegal, Denied, Full, NoNode, Unmet}
-use Rattle.ll_learn.specs.declared.learned.Unlearned.TheVariants.{NoMemory}
-use Rattle.ll_learn.specs.declared.fault.LearnFault.{LearnFault}
-use Rattle.ll_learn.specs.declared.fault.LearnFault.TheVariants as fault
+use Rattle.ll_learn.specs.declared.fault.Unlearned.{Unlearned}
+use Rattle.ll_learn.specs.declared.fault.Unlearned.TheVariants as fault
+use Rattle.ll_learn.specs.declared.learned.Aim.{Aim}
+use Rattle.ll_learn.specs.declared.profile.LearnedProfile.{LearnedProfile}
+use Rattle.ll_learn.specs.Bound.{Part, PassesEach, ReachesNoMore}
 use Rattle.ll_learn.specs.Faults.{IsFirstDenied, IsFirstFull}
 use Rattle.ll_learn.specs.Least.{AreNeeded}
-use Rattle.ll_learn.specs.Lesson.{AreNamed, IsOfProfile}
-use Rattle.ll_learn.specs.Passing.{IsLearnable, Passes}
+use Rattle.ll_learn.specs.Lesson.{AreNamed, IsOfProfile, gives}
+use Rattle.ll_learn.specs.Passing.{IsLearnable}
+use Rattle.ll_learn.specs.Sites.{IsLayerOf}
+
+-- ---- Where histories are cut
+
+-- the client connects
+abbrev pub connects_as : ℕ → Entry → Bool
+connects_as client e = (e.client == client) && is_connect e.call
+
+abbrev pub NeverConnects : List Entry → ℕ → Type 0
+NeverConnects es client = list_any (connects_as client) es ≡ false
 
 -- so many entries are those up to the client's first connect
 pub record IsCut (es : List Entry) (client cut : ℕ) : Type 0 where
   pub some : 1 ≤ cut
   pub last : Entry
   pub is : slice_get es (cut - 1) ≡ Some last
-  pub connects : is_connect last.call ≡ true
-  pub whose : last.client ≡ client
+  pub connects : connects_as client last ≡ true
+  pub first : NeverConnects (take (cut - 1) es) client
 
--- Behind the cut each call gets the same reply where the client has the layer that the profile is of, and without any
--- one right of any one rule of the layer not each does
-pub record IsLearnedAt (s : State) (client : ℕ) (late : List Entry) (profile : Profile) : Type 0 where
-  pub learnable : IsLearnable s client late
+-- up to there the history has these entries
+pub record BeginsSo (early : List Entry) (client : ℕ) (es : List Entry) : Type 0 where
+  pub cut : IsCut es client (length early)
+  pub alike : take (length early) es ≡ early
+
+-- the part behind the cut, where the tree is
+abbrev pub part_behind : State → ℕ → ℕ → List Entry → Part
+part_behind s client cut es = record { cut = s; client = client; entries = drop cut es }
+
+-- all histories are alike up to the cut, and legal; the parts behind it
+pub record AreCut (s : State) (client : ℕ) (histories : List (List Entry)) (early : List Entry) (parts : List Part)
+    : Type 0 where
+  pub legal : IsLegal s early
+  pub begin : All (BeginsSo early client) histories
+  pub are : parts ≡ map (part_behind (state_after s early) client (length early)) histories
+
+-- ---- What is learned
+
+-- rules within the aim may hold the right
+abbrev pub may_hold : Aim → ℕ → Bool
+may_hold aim right = holds aim.handled.0 right && not (holds aim.never.0 right)
+
+-- the layers that a policy can spell at this tree within the aim
+abbrev pub IsWithinAim : State → Aim → Layer → Type 0
+IsWithinAim s aim layer = (held : ℕ) → ((right : ℕ) → right < 15 → holds held right ≡ may_hold aim right) →
+    IsLayerOf s aim.handled.0 held layer
+
+-- Each part passes under the layer that the profile is of, and without any one right of any one rule of the layer not
+-- each does. If the profile is least, no layer within the aim under which each part passes reaches less at the cut
+pub record IsLearnedAt (s : State) (parts : List Part) (aim : Aim) (profile : LearnedProfile) : Type 0 where
+  pub learnable : (part : Part) → Contains parts part → IsLearnable part.cut part.client part.entries
+  pub handled : profile.handled ≡ aim.handled
+  pub held : (inode right : ℕ) → right < 15 → list_any (gives inode right) profile.rules.items ≡ true
+      → may_hold aim right ≡ true
   pub named : AreNamed s profile.rules.items
-  pub passes : (layer : Layer) → IsOfProfile profile layer → Passes s client late layer
-  pub needed : (layer : Layer) → IsOfProfile profile layer → AreNeeded (Passes s client late) layer
+  pub passes : (layer : Layer) → IsOfProfile profile layer → PassesEach parts layer
+  pub needed : (layer : Layer) → IsOfProfile profile layer → AreNeeded (PassesEach parts) layer
+  pub least : profile.is_least ≡ true → (least : Layer) → IsOfProfile profile least
+      → (layer : Layer) → IsWithinAim s aim layer → PassesEach parts layer → ReachesNoMore s least layer
 
--- so it is behind the client's connect
-pub record IsLearned (s : State) (es : List Entry) (client : ℕ) (profile : Profile) : Type 0 where
-  pub cut : ℕ
-  pub is_cut : IsCut es client cut
-  pub legal : IsLegal s (take cut es)
-  pub learned : IsLearnedAt (state_after s (take cut es)) client (drop cut es) profile
+-- so it is behind the client's connect, in a tree that was this one at first
+pub record IsLearned (s : State) (histories : List (List Entry)) (aim : Aim) (profile : LearnedProfile) : Type 0 where
+  pub early : List Entry
+  pub parts : List Part
+  pub some : 1 ≤ length histories
+  pub cut : AreCut s aim.client histories early parts
+  pub learned : IsLearnedAt (state_after s early) parts aim profile
 
--- why nothing is learned behind a cut
-abbrev pub IsLateFault : State → ℕ → List Entry → Unlearned → Type 0
-IsLateFault s client late NoClient = has s.clients client ≡ false
-IsLateFault s client late (Illegal number) = IsFirstIllegal s late number
-IsLateFault s client late (Denied number) = IsFirstDenied s client late number
-IsLateFault s client late (Full number) = IsFirstFull s client late number
-IsLateFault s client late (NoNode index) = ⊤
-IsLateFault s client late (Unmet number) = ⊤
-IsLateFault s client late NoMemory = ⊤
+-- ---- Why nothing is
 
-abbrev pub unlearned_by : LearnFault → Unlearned
-unlearned_by fault.NoClient = NoClient
-unlearned_by (fault.Illegal number) = Illegal number
-unlearned_by (fault.Denied number) = Denied number
-unlearned_by (fault.Full number) = Full number
-unlearned_by fault.NoMemory = NoMemory
+-- the first history has these entries up to the cut
+pub record IsOpening (histories : List (List Entry)) (client : ℕ) (early : List Entry) : Type 0 where
+  pub first : List Entry
+  pub is : slice_get histories 0 ≡ Some first
+  pub begins : BeginsSo early client first
 
-abbrev pub unlearned_audited : AuditFault → Unlearned
-unlearned_audited (audit.Illegal number) = Illegal number
-unlearned_audited audit.NoMemory = NoMemory
+abbrev pub IsUnlike : List Entry → ℕ → List Entry → Type 0
+IsUnlike early client es = (cut : ℕ) × IsCut es client cut × (take cut es ≡ early → ⊥)
+
+-- Behind the cut, up to which all is legal, this holds of the entry of this number, which is counted from the start
+pub record IsBehind (Is : State → ℕ → List Entry → ℕ → Type 0) (s : State) (early : List Entry) (client : ℕ)
+    (es : List Entry) (number : ℕ) : Type 0 where
+  pub begins : BeginsSo early client es
+  pub legal : IsLegal s early
+  pub behind : ℕ
+  pub counted : number ≡ length early + behind
+  pub is : Is (state_after s early) client (drop (length early) es) behind
+
+-- this holds of the history of this number, where the first begins with these entries
+pub record IsOfOne (histories : List (List Entry)) (client number : ℕ) (Is : (early es : List Entry) → Type 0)
+    : Type 0 where
+  pub early : List Entry
+  pub es : List Entry
+  pub opening : IsOpening histories client early
+  pub is : slice_get histories number ≡ Some es
+  pub so : Is early es
+
+-- no layer within the aim lets all parts pass
+pub record IsUnmetBy (s : State) (histories : List (List Entry)) (aim : Aim) : Type 0 where
+  pub early : List Entry
+  pub parts : List Part
+  pub cut : AreCut s aim.client histories early parts
+  pub opening : IsOpening histories aim.client early
+  pub none : (layer : Layer) → IsWithinAim (state_after s early) aim layer → PassesEach parts layer → ⊥
+
+-- at the cut the path of this index, from 0, names nothing
+pub record NamesNone (s : State) (aim : Aim) (index : ℕ) : Type 0 where
+  pub path : Path
+  pub is : slice_get aim.beneath.now index ≡ Some path
+  pub none : named s path ≡ None
+
+abbrev pub IsUnlearned : State → List (List Entry) → Aim → Unlearned → Type 0
+IsUnlearned s hs aim (fault.NoClient n) =
+    ((hs ≡ []) × (n ≡ 0)) ⊎ ((es : List Entry) × (slice_get hs n ≡ Some es) × NeverConnects es aim.client)
+IsUnlearned s hs aim (fault.Unlike n) = IsOfOne hs aim.client n (λ early es. IsUnlike early aim.client es)
+IsUnlearned s hs aim (fault.Illegal at) =
+    (es : List Entry) × (slice_get hs at.history ≡ Some es) × IsFirstIllegal s es at.entry
+IsUnlearned s hs aim (fault.Denied at) =
+    IsOfOne hs aim.client at.history (λ early es. IsBehind IsFirstDenied s early aim.client es at.entry)
+IsUnlearned s hs aim (fault.Full at) =
+    IsOfOne hs aim.client at.history (λ early es. IsBehind IsFirstFull s early aim.client es at.entry)
+IsUnlearned s hs aim (fault.Unmet at) = IsUnmetBy s hs aim
+IsUnlearned s hs aim (fault.NoNode index) =
+    (early : List Entry) × IsOpening hs aim.client early × IsLegal s early × NamesNone (state_after s early) aim index
+IsUnlearned s hs aim fault.NoMemory = ⊤

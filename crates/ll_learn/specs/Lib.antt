@@ -14,5 +14,8 @@ pub mod Sites
 pub mod Profile
 pub mod Lesson
 pub mod Learned
+pub mod Opening
+pub mod Framed
 pub mod Charges
 pub mod There
+pub mod Mended

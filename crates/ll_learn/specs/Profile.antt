@@ -1,12 +1,15 @@
 -- The text of a learned profile, in the format of policies (docs/PROGRAM.md, "Policies"). own
-use Rattle.std.specs.Prelude.{ℕ, Bool, ◌==◌, ◌||◌, List, [], ◌∷◌, ◌++◌, codes, if◌then◌else◌}
+use Rattle.std.specs.Prelude.{ℕ, Bool, ◌==◌, ◌||◌, List, [], ◌∷◌, ◌++◌, codes, map, if◌then◌else◌}
 use Rattle.std.specs.Prelude.{Option, Some, None}
 use Rattle.std.specs.List.{concat, flat_map}
 use Rattle.ll_rights.specs.Access.{access_text}
 use Rattle.ll_path.specs.Path.{path_text}
+use Rattle.ll_path.specs.declared.target.Target.TheVariants.{Good}
+use Rattle.ll_seq.specs.declared.call.Call.{Call}
+use Rattle.ll_seq.specs.declared.call.Call.TheVariants.{Allow, Confine, Ruleset}
 use Rattle.ll_learn.specs.declared.needs.Origin.{Origin}
-use Rattle.ll_learn.specs.declared.profile.Rule.{Rule}
-use Rattle.ll_learn.specs.declared.profile.Profile.{Profile}
+use Rattle.ll_learn.specs.declared.profile.LearnedRule.{LearnedRule}
+use Rattle.ll_learn.specs.declared.profile.LearnedProfile.{LearnedProfile}
 
 -- in a string of TOML a quotation mark (34) and a backslash (92) stand behind a backslash
 abbrev pub toml_byte : ℕ → List ℕ
@@ -28,13 +31,23 @@ comment note None = []
 comment note (Some entry) = concat (codes "# " ∷ note entry ∷ [])
 
 -- behind an empty line, and a comment on what needs it first
-abbrev pub rule_text : (Origin → List ℕ) → List ℕ → Rule → List ℕ
+abbrev pub rule_text : (Origin → List ℕ) → List ℕ → LearnedRule → List ℕ
 rule_text note name rule = concat (
     codes "\n" ∷ comment note rule.needed_by ∷ codes "[[profile." ∷ name ∷ codes ".layer.rule]]\npath = "
     ∷ toml_string (path_text rule.path) ∷ codes "\nrights = \"" ∷ access_text rule.rights.0 ∷ codes "\"\n" ∷ [])
 
 -- one layer, and its rules in order
-abbrev pub profile_text : (Origin → List ℕ) → List ℕ → Profile → List ℕ
+abbrev pub profile_text : (Origin → List ℕ) → List ℕ → LearnedProfile → List ℕ
 profile_text note name profile = concat (
     head_line profile.is_least ∷ codes "[[profile." ∷ name ∷ codes ".layer]]\nhandled = \""
     ∷ access_text profile.handled.0 ∷ codes "\"\n" ∷ flat_map (rule_text note name) profile.rules.items ∷ [])
+
+-- ---- The same as calls
+
+-- adds the rule to the ruleset of number 0
+abbrev pub call_of : LearnedRule → Call
+call_of rule = Allow 0 (Good rule.path) rule.rights
+
+-- by which a client that has created no ruleset gets the layer
+abbrev pub calls_of : LearnedProfile → List Call
+calls_of profile = Ruleset profile.handled ∷ (map call_of profile.rules.items ++ Confine 0 ∷ [])

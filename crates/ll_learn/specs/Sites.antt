@@ -1,23 +1,55 @@
--- Where nodes are in a tree, and what rules on them may grant. own
-use Rattle.std.specs.Prelude.{◌≡◌, ℕ, ◌==◌, Some, All, bit_and, slice_get, if◌then◌else◌}
-use Rattle.ll_seq.specs.State.{State, kind_of, root}
+-- Where nodes are in a tree, what rules on them may grant, and which layers a policy can spell there. own
+use Rattle.std.specs.Prelude.{◌≡◌, ◌<◌, ◌==◌, ◌∷◌, [], ◌++◌, ℕ, List, Some, true, All, IsTrue, bit_and, slice_get}
+use Rattle.std.specs.Prelude.{if◌then◌else◌}
+use Rattle.ll_rights.specs.Access.{holds}
+use Rattle.ll_path.specs.Path.{Path}
+use Rattle.ll_path.specs.Target.{IsTarget}
+use Rattle.ll_path.specs.Word.{IsWord}
+use Rattle.ll_path.specs.declared.target.Target.TheVariants.{Good}
+use Rattle.ll_rules.specs.Layer.{Layer, has_rule}
+use Rattle.ll_seq.specs.CallParts.{is_relevant}
+use Rattle.ll_seq.specs.History.{IsLegal, state_after}
+use Rattle.ll_seq.specs.State.{Name, State, child, kind_of, root, start}
 use Rattle.ll_seq.specs.Tree.{named}
+use Rattle.ll_seq.specs.declared.reply.Entry.{Entry}
+use Rattle.ll_seq.specs.declared.rules.Rules.{Rules}
 use Rattle.ll_why.specs.Rights.{meant}
 use Rattle.ll_learn.specs.declared.site.Site.{Site}
 use Rattle.ll_learn.specs.declared.site.Sites.{Sites}
+
+-- a legal history led there
+pub record IsReached (s : State) : Type 0 where
+  pub rules : Rules
+  pub room : ℕ
+  pub early : List Entry
+  pub legal : IsLegal (start rules room) early
+  pub leads : s ≡ state_after (start rules room) early
+
+-- some word spells the path
+abbrev pub IsSpelt : Path → Type 0
+IsSpelt path = (text : List ℕ) × IsWord text × IsTarget text (Good path)
+
+-- a path that some word spells names the inode
+abbrev pub HasSpeltName : State → ℕ → Type 0
+HasSpeltName s inode = (path : Path) × IsSpelt path × (named s path ≡ Some inode)
 
 -- what a rule on the inode may grant of these rights: those that mean something for its kind. The root is a directory
 abbrev pub may_grant : State → ℕ → ℕ → ℕ
 may_grant s all inode = if inode == root then all else bit_and all (meant (kind_of s inode))
 
--- its path names it, and a rule on it may grant so much
+-- its path, which some word spells, names it, and a rule on it may grant so much
 pub record IsSite (s : State) (all : ℕ) (site : Site) : Type 0 where
+  pub spelt : IsSpelt site.path
   pub named : named s site.path ≡ Some site.inode
   pub may : site.may.0 ≡ may_grant s all site.inode
 
 -- it is among them
 abbrev pub IsAmong : Sites → Site → Type 0
 IsAmong sites site = (index : ℕ) × (slice_get sites.rows.items index ≡ Some site)
+
+-- one of them is this inode's
+abbrev pub HasSite : Sites → ℕ → Type 0
+HasSite sites inode = (site : Site) × IsAmong sites site × (site.inode ≡ inode)
 
 -- the root is among them, and a rule on it may grant all these rights
 abbrev pub HasTop : ℕ → Sites → Type 0
@@ -27,3 +59,30 @@ HasTop all sites = (site : Site) × IsAmong sites site × (site.inode ≡ root) 
 pub record AreSites (s : State) (all : ℕ) (sites : Sites) : Type 0 where
   pub each : All (IsSite s all) sites.rows.items
   pub top : HasTop all sites
+
+-- each node that a spelt path names is among them
+abbrev pub AreAll : State → Sites → Type 0
+AreAll s sites = (inode : ℕ) → HasSpeltName s inode → HasSite sites inode
+
+-- The layers that a policy can spell at this tree, which handle these rights: each rule is on a node that a spelt path
+-- names, and holds only rights that are held and mean something for it
+pub record IsLayerOf (s : State) (handled held : ℕ) (layer : Layer) : Type 0 where
+  pub handles : layer.handled ≡ handled
+  pub rules : (inode right : ℕ) → right < 15 → has_rule layer right inode ≡ true
+      → HasSpeltName s inode × (holds held right ≡ true) × IsTrue (is_relevant (kind_of s inode) right)
+
+-- ---- While they are gathered
+
+-- more sites behind the same ones
+abbrev pub IsLonger : Sites → Sites → Type 0
+IsLonger old new = (more : List Site) × (new.rows.items ≡ old.rows.items ++ more)
+
+-- each node right below the site that a spelt path of it names is among them
+abbrev pub HasBelow : State → Sites → Site → Type 0
+HasBelow s sites site = (name : Name) (inode : ℕ) → IsSpelt (site.path ++ name ∷ [])
+    → child s site.inode name ≡ Some inode → HasSite sites inode
+
+-- that is so of each site in front of this index
+abbrev pub HaveBelow : State → Sites → ℕ → Type 0
+HaveBelow s sites index =
+    (i : ℕ) → i < index → (site : Site) → slice_get sites.rows.items i ≡ Some site → HasBelow s sites site

@@ -3,8 +3,8 @@
 ghost use Rattle.std.specs.Prelude.{◌≡◌, ◌<◌, ◌==◌, ◌||◌, ◌&&◌, ℕ, true, false, length, slice_set, IfOk};
 ghost use Rattle.std.specs.List.{list_all, list_any};
 ghost use Rattle.ll_learn.specs.Columns.{AreFromRoot, Grows, Shrinks, free_count, held_count, is_at};
-ghost use Rattle.ll_learn.specs.Draft.{IsLeast, IsScope, is_asked_at, is_gainless, is_granted, is_mended_at, is_met};
-ghost use Rattle.ll_learn.specs.Draft.{is_some_at, may_have, place_of, without};
+ghost use Rattle.ll_learn.specs.Draft.{IsLeast, IsScope, IsSpread, is_asked_at, is_gainless, is_granted, is_mended_at};
+ghost use Rattle.ll_learn.specs.Draft.{is_met, is_some_at, may_have, place_of, without};
 ghost use Rattle.ll_learn.specs.Needs.{AreRooted};
 
 use crate::draft::Scope;
@@ -138,6 +138,8 @@ fn close_once(held: &mut Vec<bool>, right: Right, moves: &[Moved], scope: &Scope
     requires len { length held.old.items ≡ length scope.now.may.items }
     requires within { (inode : ℕ) → is_at held.old.items inode ≡ true → may_have scope.now right inode ≡ true }
     ensures grows { Grows (is_mended_at scope.now right moves.now) held.old.items held.new.items }
+    ensures spread { (inode : ℕ) → is_at held.new.items inode ≡ true
+        → IsSpread scope.now right moves.now (is_at held.old.items) inode }
     ensures kept { result ≡ false → held.new.items ≡ held.old.items }
     ensures more { result ≡ true → free_count held.new.items < free_count held.old.items }
     ensures done { result ≡ false → list_all (is_gainless (is_at held.new.items) right) moves.now ≡ true }
@@ -160,6 +162,8 @@ fn close(held: &mut Vec<bool>, right: Right, moves: &[Moved], scope: &Scope)
     requires len { length held.old.items ≡ length scope.now.may.items }
     requires within { (inode : ℕ) → is_at held.old.items inode ≡ true → may_have scope.now right inode ≡ true }
     ensures grows { Grows (is_mended_at scope.now right moves.now) held.old.items held.new.items }
+    ensures spread { (inode : ℕ) → is_at held.new.items inode ≡ true
+        → IsSpread scope.now right moves.now (is_at held.old.items) inode }
     ensures done { list_all (is_gainless (is_at held.new.items) right) moves.now ≡ true }
 {
     let mut changed = true;

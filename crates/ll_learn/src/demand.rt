@@ -12,6 +12,7 @@ ghost use Rattle.ll_seq.specs.Passed.{Passed, before_policy};
 ghost use Rattle.ll_seq.specs.State.{State};
 ghost use Rattle.ll_seq.specs.Step.{client_of};
 ghost use Rattle.ll_learn.specs.Asking.{AllowsAsked, AreAsksRooted};
+ghost use Rattle.ll_learn.specs.Bound.{WereThere};
 ghost use Rattle.ll_learn.specs.Demand.{GoesOn, IsClosedAt, IsOpenAt, StopsAt};
 ghost use Rattle.ll_learn.specs.Faults.{IsFault};
 ghost use Rattle.ll_learn.specs.Outside.{first_outside, is_moved};
@@ -19,7 +20,7 @@ ghost use Rattle.ll_learn.specs.Needs.{Adds, AreRooted, GrantsAll, Meets, Starts
 ghost use Rattle.ll_learn.specs.Passing.{Allows, IsLearnable, Openings, is_client, joins, opened_at};
 ghost use Rattle.ll_learn.specs.Watched.{is_watched, paths_opened};
 ghost use Rattle.ll_learn.specs.Watching.{IsWatch, Opens};
-ghost use Rattle.ll_learn.specs.There.{AsksMore, ComeFrom, IsAskedOn};
+ghost use Rattle.ll_learn.specs.There.{AsksMore, ComeFrom, IsAskedOn, IsOfPath, MovesMore};
 ghost use Rattle.ll_decide.specs.declared.demands.On.{On};
 ghost use Rattle.ll_why.specs.Reasons.{chain_of};
 
@@ -125,6 +126,7 @@ impl Needs {
             ↔ (Meets grants self.old × AllowsAsked grants asks.now)) }
         ensures rooted { OnOk result (AreRooted self.old → AreAsksRooted asks.now → AreRooted self.new) }
         ensures asks { OnOk result (AsksMore (λ path. (on : On) × (path ≡ chain_of asks.now on)) self.old self.new) }
+        ensures moves { OnOk result (MovesMore (λ path. (on : On) × (path ≡ chain_of asks.now on)) self.old self.new) }
         ensures outside { self.new.outside ≡ self.old.outside }
     {
         let sets = asks.demands;
@@ -164,6 +166,7 @@ impl Needs {
             → AreRooted self.new) }
         ensures asks { OnOk result (AsksMore (IsAskedOn tree.now watch.now.clients.items entry.now.client)
             self.old self.new) }
+        ensures moves { OnOk result (MovesMore (IsOfPath tree.now) self.old self.new) }
         ensures outside { self.new.outside ≡ self.old.outside }
     {
         if !watch.is_on(entry.client) {
@@ -245,6 +248,7 @@ impl Needs {
         ensures adds { OnOk result (Adds tree.old client entries.now self.old self.new) }
         ensures rooted { OnOk result (AreRooted self.old → AreRooted self.new) }
         ensures paths { OnOk result (ComeFrom tree.old entries.now self.old self.new) }
+        ensures moves { OnOk result (MovesMore (WereThere tree.old entries.now) self.old self.new) }
 
         // The first move that is done for a client whom the layer isn't on.
         ensures outside { OnOk result (self.new.outside

@@ -35,7 +35,7 @@ pub struct Draft {
 
 /// Why a right stands in a rule.
 #[derive(Clone, Copy)]
-pub enum Reason {
+pub enum Need {
     /// This entry asks it, where no other rule grants it.
     Asks(Origin),
     /// This entry moves a node to where the right would be gained.
@@ -74,6 +74,16 @@ impl Scope {
         ensures { result ≡ may_have self.now right inode }
     {
         right_at(&self.may, right, inode)
+    }
+
+    /// Whether a rule on the inode may hold any right.
+    pub(crate) fn may_have_any(&self, inode: u64) -> bool
+        ensures { (right : ℕ) → may_have self.now right inode ≡ true → result ≡ true }
+    {
+        match self.may.get(inode as usize) {
+            Some(rights) => rights.0 != 0,
+            None => false,
+        }
     }
 
     /// Whether the layer restricts the right.

@@ -2,6 +2,7 @@
 
 ghost use Rattle.ll_learn.specs.Bound.{AsksAreRequired, ChargedIsLeast, NeedIsReached, TruncateIsRequired};
 ghost use Rattle.ll_learn.specs.Charges.{DraftIsLeast, OutsideIsNone};
+ghost use Rattle.ll_learn.specs.Mended.{MendedIsLeast};
 ghost use Rattle.ll_learn.specs.Passing.{SameReplies};
 
 /// A layer allows each call of the clients that it is on exactly if the history has the same replies where the client
@@ -41,4 +42,10 @@ pub fn moves_are_theirs()
 /// under which the same histories pass.
 pub fn draft_is_least()
     ensures { DraftIsLeast }
+{}
+
+/// So does a layer that is learned, of whose rights some are mended, where nothing is widened and each directory that
+/// nodes move into has the nodes above it that it had at the cut.
+pub fn mended_is_least()
+    ensures { MendedIsLeast }
 {}

@@ -1,41 +1,35 @@
-//! What is learned from a history.
+//! What is learned from histories.
 
-ghost use Rattle.std.specs.Prelude.{◌≡◌, ◌<◌, ◌≤◌, ◌+◌, ◌-◌, ◌^◌, ◌↔◌, ◌⊎◌, ◌&&◌, not, ℕ, true, IfErr, IfOk, IfSome};
-ghost use Rattle.std.specs.Prelude.{OnOk, length};
+ghost use Rattle.std.specs.Prelude.{◌≡◌, ◌<◌, ◌≤◌, ◌-◌, ◌^◌, ℕ, true, IfErr, IfOk, map};
 ghost use Rattle.ll_rights.specs.Access.{holds};
+ghost use Rattle.ll_rights.specs.Map.{has};
 ghost use Rattle.ll_rights.specs.declared.limits.TheConstants.{TREE_NODES};
-ghost use Rattle.ll_rules.specs.Layer.{Layer, grants_on};
-ghost use Rattle.ll_seq.specs.History.{IsLegal, state_after};
-ghost use Rattle.ll_audit.specs.Audit.{IsFirstIllegal};
 ghost use Rattle.ll_audit.specs.Saved.{opened};
-ghost use Rattle.ll_seq.specs.State.{State};
 ghost use Rattle.ll_learn.specs.Draft.{IsScope};
-ghost use Rattle.ll_learn.specs.Learned.{IsCut, IsLateFault, IsLearned, IsLearnedAt, unlearned_audited};
-ghost use Rattle.ll_learn.specs.Learned.{unlearned_by};
-ghost use Rattle.ll_learn.specs.Least.{AreNeeded};
-ghost use Rattle.ll_learn.specs.Lesson.{AreNamed, IsOfProfile, IsOfSites};
-ghost use Rattle.ll_learn.specs.Needs.{AreRooted, Meets};
-ghost use Rattle.ll_learn.specs.Passing.{AllowsRun, IsLearnable};
-ghost use Rattle.ll_learn.specs.Sites.{AreSites};
+ghost use Rattle.ll_learn.specs.Framed.{IsFrame, IsUnframed, IsUnprofiled, MeetsNeeds};
+ghost use Rattle.ll_learn.specs.Learned.{IsLearned, IsUnlearned, may_hold};
+ghost use Rattle.ll_learn.specs.Lesson.{IsOfSites};
+ghost use Rattle.ll_learn.specs.Needs.{AreRooted};
 
 use crate::draft::Scope;
-use crate::fault::LearnFault;
+use crate::fault::Unlearned;
 use crate::lesson::profile_of;
-use crate::needs::Needs;
-use crate::profile::Profile;
+use crate::needs::{Needs, Origin};
+use crate::opening::{Opening, cut_of};
+use crate::profile::LearnedProfile;
 use crate::site::{Sites, end_of};
 use crate::solution::DraftFault;
-use ll_audit::{AuditFault, follow};
+use crate::still::SiteChains;
 use ll_path::Path;
 use ll_plain::Plain;
 use ll_rights::Access;
 use ll_seq::Entry;
 use ll_wire::Header;
-use std::alloc::{AllocError, Global};
+use std::alloc::Global;
 
 /// What is to be learned.
 #[derive(Drop)]
-pub struct Wanted<'a> {
+pub struct Aim<'a> {
     /// The client that the layer is for.
     pub client: u64,
     /// The rights that the layer handles.
@@ -46,237 +40,116 @@ pub struct Wanted<'a> {
     pub beneath: &'a [Path],
 }
 
-impl Wanted<'_> {
+// Where rules may stand in a tree.
+#[derive(Drop)]
+struct Frame {
+    sites: Sites,
+    chains: SiteChains,
+    scope: Scope,
+}
+
+impl Aim<'_> {
     // The rights that rules may hold.
     fn held(&self) -> Access
-        ensures { (right : ℕ) → right < 15 → holds result.0 right
-            ≡ (holds self.now.handled.0 right && not (holds self.now.never.0 right)) }
+        ensures { (right : ℕ) → right < 15 → holds result.0 right ≡ may_hold self.now right }
     {
         Access(self.handled.0 & !self.never.0)
     }
-}
 
-/// Why nothing is learned. Entries are counted from 1.
-#[derive(Clone, Copy, Debug, PartialEq, Eq)]
-pub enum Unlearned {
-    /// No such client connects.
-    NoClient,
-    /// The entry isn't legal.
-    Illegal(usize),
-    /// The entry's call is denied already.
-    Denied(usize),
-    /// There is no room for a layer behind the entry.
-    Full(usize),
-    /// The path of this index, from 0, names no node whose rule could take what is asked below it.
-    NoNode(usize),
-    /// No layer that handles these rights lets the entry's call pass.
-    Unmet(usize),
-    NoMemory,
-}
-
-impl From<AllocError> for Unlearned {
-    ghost use Rattle.std.specs.Prelude.{◌≡◌};
-    ghost use Rattle.ll_learn.specs.declared.learned.Unlearned.TheVariants.{NoMemory};
-
-    ghost from_gives = { λ _ fault. fault ≡ NoMemory };
-
-    fn from(_: AllocError) -> Unlearned {
-        Unlearned::NoMemory
-    }
-}
-
-impl Unlearned {
-    // What keeps needs from being gathered.
-    fn of_needs(fault: LearnFault) -> Unlearned
-        ensures { result ≡ unlearned_by fault }
+    // The nodes whose rules take what is asked below them.
+    fn inodes(&self, alloc: Global, tree: &Plain) -> Result<Vec<u64>, Unlearned>
+        ensures { IfErr result (IsUnframed tree.now self.now) }
     {
-        match fault {
-            LearnFault::NoClient => Unlearned::NoClient,
-            LearnFault::Illegal(number) => Unlearned::Illegal(number),
-            LearnFault::Denied(number) => Unlearned::Denied(number),
-            LearnFault::Full(number) => Unlearned::Full(number),
-            LearnFault::NoMemory => Unlearned::NoMemory,
+        let mut inodes = Vec::new(alloc);
+        for (i, path) in self.beneath.iter().enumerate() {
+            let Some(inode) = end_of(tree, path) else {
+                return Err(Unlearned::NoNode(i));
+            };
+            if let Err(refused) = inodes.push(inode) {
+                drop(refused);
+                return Err(Unlearned::NoMemory);
+            }
         }
+        Ok(inodes)
     }
 
-    // What an audit of the entries up to the cut finds.
-    fn of_audit(fault: AuditFault) -> Unlearned
-        ensures { result ≡ unlearned_audited fault }
+    // Where rules may stand in this tree. The client has no layer there.
+    fn frame(&self, alloc: Global, mut tree: Plain) -> Result<Frame, Unlearned>
+        requires caller { has tree.clients self.now.client ≡ true }
+        requires next { tree.next < 2 ^ 64 - 1 }
+        ensures frame { IfOk result (IsFrame tree self.now) }
+        ensures fault { IfErr result (IsUnframed tree self.now) }
     {
-        match fault {
-            AuditFault::Illegal(number) => Unlearned::Illegal(number),
-            AuditFault::NoMemory => Unlearned::NoMemory,
-        }
-    }
-
-    // The same, of entries of which so many others are in front.
-    fn behind(self, cut: usize) -> Unlearned {
-        match self {
-            Unlearned::Illegal(number) => Unlearned::Illegal(number.saturating_add(cut)),
-            Unlearned::Denied(number) => Unlearned::Denied(number.saturating_add(cut)),
-            Unlearned::Full(number) => Unlearned::Full(number.saturating_add(cut)),
-            Unlearned::Unmet(number) => Unlearned::Unmet(number.saturating_add(cut)),
-            other => other,
-        }
+        let beneath = self.inodes(alloc, &tree)?;
+        let held = self.held();
+        let sites = Sites::of_tree(alloc, &mut tree, self.client, held)?;
+        let chains = SiteChains::of_sites(alloc, &tree, &sites)?;
+        let scope = sites.scope(alloc, self.handled, held, beneath)?;
+        Ok(Frame {
+            sites,
+            chains,
+            scope,
+        })
     }
 }
 
-/// How many entries there are up to the client's first connect, if it connects.
-pub fn cut_of(entries: &[Entry], client: u64) -> Option<usize>
-    ensures { IfSome result (λ cut. IsCut entries.now client cut × (cut ≤ length entries.now)) }
-{
-    for (i, entry) in entries.iter().enumerate() {
-        if entry.client == client && entry.call.is_connect() {
-            return Some(i + 1);
-        }
-    }
-    None
-}
-
-// The tree behind these entries.
-fn tree_behind(alloc: Global, header: &Header, before: &[Entry]) -> Result<Plain, Unlearned>
-    requires some { 1 ≤ header.now.nodes }
-    requires most { header.now.nodes ≤ TREE_NODES }
-    ensures tree { IfOk result (λ tree. tree ≡ state_after (opened header.now) before.now) }
-    ensures legal { OnOk result (IsLegal (opened header.now) before.now) }
-    ensures illegal { IfErr result (λ fault. (number : ℕ) → fault ≡ Unlearned.Illegal number
-        → IsFirstIllegal (opened header.now) before.now number) }
-    ensures next { IfOk result (λ tree. tree.next ≤ 2 + length before.now) }
-{
-    let Ok(mut tree) = Plain::new(alloc, header.version.rules(), header.nodes) else {
-        return Err(Unlearned::NoMemory);
-    };
-    match follow(&mut tree, before) {
-        Ok(()) => Ok(tree),
-        Err(fault) => Err(Unlearned::of_audit(fault)),
-    }
-}
-
-// The nodes that these paths name.
-fn inodes_of(alloc: Global, tree: &Plain, paths: &[Path]) -> Result<Vec<u64>, Unlearned>
-    ensures { IfErr result (λ fault. (fault ≡ Unlearned.NoMemory) ⊎ ((index : ℕ) × (fault ≡ Unlearned.NoNode index))) }
-{
-    let mut inodes = Vec::new(alloc);
-    for (i, path) in paths.iter().enumerate() {
-        let Some(inode) = end_of(tree, path) else {
-            return Err(Unlearned::NoNode(i));
-        };
-        if let Err(refused) = inodes.push(inode) {
-            drop(refused);
-            return Err(Unlearned::NoMemory);
-        }
-    }
-    Ok(inodes)
-}
-
-// The entry that asks what no layer of a scope can grant.
-fn entry_of(needs: &Needs, ask: usize) -> usize {
+// The entry that asks what no layer of a scope can grant, with so many entries in front.
+fn entry_of(needs: &Needs, ask: usize, cut: usize) -> Origin {
     match needs.asks.get(ask) {
-        Some(asked) => asked.origin.entry,
-        None => 0,
+        Some(asked) => Origin {
+            history: asked.origin.history,
+            entry: asked.origin.entry.saturating_add(cut),
+        },
+        None => Origin {
+            history: 0,
+            entry: 0,
+        },
     }
 }
 
-// What the entries behind the cut need.
-fn needs_of(
-    alloc: Global,
-    tree: &mut Plain,
-    client: u64,
-    late: &[Entry],
-) -> Result<Needs, Unlearned>
-    requires { tree.old.next + length late.now < 2 ^ 64 }
-    ensures learnable { OnOk result (IsLearnable tree.old client late.now) }
-    ensures rooted { IfOk result AreRooted }
-    ensures needs { IfOk result (λ needs. (layer : Layer) → Meets (grants_on layer) needs
-        ↔ AllowsRun tree.old client late.now layer) }
-    ensures fault { IfErr result (IsLateFault tree.old client late.now) }
-{
-    let mut needs = Needs::new(alloc);
-    match needs.add(alloc, tree, client, late, 0) {
-        Ok(()) => Ok(needs),
-        Err(fault) => Err(Unlearned::of_needs(fault)),
+impl Frame {
+    // The profile that meets the needs of histories that were cut behind so many entries.
+    fn profile(&self, alloc: Global, needs: &Needs, cut: usize) -> Result<LearnedProfile, Unlearned>
+        requires scope { IsScope self.now.scope }
+        requires sites { IsOfSites self.now.sites self.now.scope }
+        requires rooted { AreRooted needs.now }
+        ensures meets { IfOk result (MeetsNeeds self.now.sites self.now.chains self.now.scope needs.now) }
+        ensures fault { IfErr result (IsUnprofiled self.now.scope needs.now) }
+    {
+        match profile_of(alloc, needs, &self.scope, &self.sites, &self.chains) {
+            Ok(profile) => Ok(profile),
+            Err(DraftFault::Unmet(ask)) => Err(Unlearned::Unmet(entry_of(needs, ask, cut))),
+            Err(DraftFault::NoMemory) => Err(Unlearned::NoMemory),
+        }
     }
 }
 
-// The profile that meets them.
-fn profile_by(
-    alloc: Global,
-    needs: &Needs,
-    scope: &Scope,
-    sites: &Sites,
-) -> Result<Profile, Unlearned>
-    requires scope { IsScope scope.now }
-    requires rooted { AreRooted needs.now }
-    requires sites { IsOfSites sites.now scope.now }
-    ensures named { IfOk result (λ profile. (s : State) (all : ℕ) → AreSites s all sites.now
-        → AreNamed s profile.rules.items) }
-    ensures meets { IfOk result (λ profile. (layer : Layer) → IsOfProfile profile layer
-        → Meets (grants_on layer) needs.now) }
-    ensures needed { IfOk result (λ profile. (layer : Layer) → IsOfProfile profile layer
-        → AreNeeded (λ less. Meets (grants_on less) needs.now) layer) }
-    ensures fault { IfErr result (λ fault. (fault ≡ Unlearned.NoMemory)
-        ⊎ ((number : ℕ) × (fault ≡ Unlearned.Unmet number))) }
-{
-    match profile_of(alloc, needs, scope, sites) {
-        Ok(profile) => Ok(profile),
-        Err(DraftFault::Unmet(ask)) => Err(Unlearned::Unmet(entry_of(needs, ask))),
-        Err(DraftFault::NoMemory) => Err(Unlearned::NoMemory),
-    }
-}
-
-/// Learns from the entries behind a cut, where the tree is, for a client that has no layer there.
-pub fn learn_at(
-    alloc: Global,
-    mut tree: Plain,
-    late: &[Entry],
-    wanted: &Wanted,
-) -> Result<Profile, Unlearned>
-    requires next { tree.next + length late.now < 2 ^ 64 }
-    requires first { tree.next < 2 ^ 64 - 1 }
-    ensures learned { IfOk result (IsLearnedAt tree wanted.now.client late.now) }
-    ensures fault { IfErr result (IsLateFault tree wanted.now.client late.now) }
-{
-    if !tree.has_client(wanted.client) {
-        return Err(Unlearned::NoClient);
-    }
-    let beneath = match inodes_of(alloc, &tree, wanted.beneath) {
-        Ok(beneath) => beneath,
-        Err(fault) => return Err(fault),
-    };
-    let held = wanted.held();
-    let Ok(sites) = Sites::of_tree(alloc, &mut tree, wanted.client, held) else {
-        return Err(Unlearned::NoMemory);
-    };
-    let Ok(scope) = sites.scope(alloc, wanted.handled, held, beneath) else {
-        return Err(Unlearned::NoMemory);
-    };
-    let needs = match needs_of(alloc, &mut tree, wanted.client, late) {
-        Ok(needs) => needs,
-        Err(fault) => return Err(fault),
-    };
-    profile_by(alloc, &needs, &scope, &sites)
-}
-
-/// Learns from a history of a tree that was opened so: behind the client's first connect.
+/// Learns one layer from histories of trees that were opened so: from what each has behind the client's first connect.
+/// Up to there all are alike.
 pub fn learn(
     alloc: Global,
     header: &Header,
-    entries: &[Entry],
-    wanted: &Wanted,
-) -> Result<Profile, Unlearned>
+    histories: &[&[Entry]],
+    aim: &Aim,
+) -> Result<LearnedProfile, Unlearned>
     requires some { 1 ≤ header.now.nodes }
     requires most { header.now.nodes ≤ TREE_NODES }
-    ensures { IfOk result (IsLearned (opened header.now) entries.now wanted.now.client) }
+    ensures learned { IfOk result (IsLearned (opened header.now) (map (λ h. h.now) histories.now) aim.now) }
+    ensures fault { IfErr result (IsUnlearned (opened header.now) (map (λ h. h.now) histories.now) aim.now) }
 {
-    let Some(cut) = cut_of(entries, wanted.client) else {
-        return Err(Unlearned::NoClient);
+    let Some(first) = histories.first() else {
+        return Err(Unlearned::NoClient(0));
     };
-    let tree = match tree_behind(alloc, header, &entries[..cut]) {
-        Ok(tree) => tree,
-        Err(fault) => return Err(fault),
+    let Some(cut) = cut_of(first, aim.client) else {
+        return Err(Unlearned::NoClient(0));
     };
-    match learn_at(alloc, tree, &entries[cut..], wanted) {
-        Ok(profile) => Ok(profile),
-        Err(fault) => Err(fault.behind(cut)),
-    }
+    let opening = Opening {
+        header,
+        client: aim.client,
+        early: &first[..cut],
+    };
+    let tree = opening.tree(alloc, 0)?;
+    let frame = aim.frame(alloc, tree)?;
+    let needs = opening.needs(alloc, histories)?;
+    frame.profile(alloc, &needs, cut)
 }

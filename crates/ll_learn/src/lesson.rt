@@ -1,52 +1,46 @@
 //! The least profile that meets what calls need.
 
-ghost use Rattle.std.specs.Prelude.{◌≡◌, ℕ, true, None, IfErr, IfOk};
+ghost use Rattle.std.specs.Prelude.{◌≡◌, ◌⊎◌, ℕ, true, None, IfErr, IfOk};
 ghost use Rattle.ll_rules.specs.Layer.{Layer, grants_on};
-ghost use Rattle.ll_seq.specs.State.{State};
 ghost use Rattle.ll_learn.specs.Draft.{IsCharged, IsInScope, IsScope, IsUnmet};
-ghost use Rattle.ll_learn.specs.Least.{AreNeeded};
-ghost use Rattle.ll_learn.specs.Lesson.{AreNamed, IsLeastOf, IsOfSites, IsOfProfile};
+ghost use Rattle.ll_learn.specs.Framed.{MeetsNeeds};
+ghost use Rattle.ll_learn.specs.Lesson.{IsOfSites, IsUnmoved};
 ghost use Rattle.ll_learn.specs.Needs.{AreRooted, Meets};
-ghost use Rattle.ll_learn.specs.Sites.{AreSites};
 
 use crate::draft::{Draft, Scope};
 use crate::needs::Needs;
-use crate::profile::Profile;
+use crate::profile::LearnedProfile;
 use crate::rules::rules_of;
 use crate::site::Sites;
 use crate::solution::{DraftFault, least_draft};
+use crate::still::SiteChains;
 use std::alloc::Global;
 
-// Whether each right of the draft is asked where no later rule may hold it, and nobody else moves anything.
-fn is_least(draft: &Draft, scope: &Scope, needs: &Needs) -> bool
-    ensures charged { result ≡ true → IsCharged scope.now needs.now draft.now }
+// Whether each right of the draft is asked where no later rule may hold it, or else no directory that nodes move into
+// has moved, and nobody else moves anything.
+fn is_least(draft: &Draft, scope: &Scope, needs: &Needs, chains: &SiteChains) -> bool
+    ensures why { result ≡ true → IsCharged scope.now needs.now draft.now ⊎ IsUnmoved chains.now scope.now needs.now }
     ensures alone { result ≡ true → needs.now.outside ≡ None }
 {
     if needs.outside.is_some() {
         return false;
     }
-    draft.is_charged(scope, needs)
+    draft.is_charged(scope, needs) || (scope.beneath.is_empty() && chains.is_still(scope, needs))
 }
 
 /// Returns the profile of a layer of the scope that meets the needs, and doesn't without any one right of any one rule.
-/// Its rules are on these nodes.
-pub fn profile_of(
+/// Its rules are on these nodes. The directories among them have these chains.
+pub(crate) fn profile_of(
     alloc: Global,
     needs: &Needs,
     scope: &Scope,
     sites: &Sites,
-) -> Result<Profile, DraftFault>
+    chains: &SiteChains,
+) -> Result<LearnedProfile, DraftFault>
     requires scope { IsScope scope.now }
     requires rooted { AreRooted needs.now }
     requires sites { IsOfSites sites.now scope.now }
-    ensures named { IfOk result (λ profile. (s : State) (all : ℕ) → AreSites s all sites.now
-        → AreNamed s profile.rules.items) }
-    ensures within { IfOk result (λ profile. (layer : Layer) → IsOfProfile profile layer → IsInScope scope.now layer) }
-    ensures meets { IfOk result (λ profile. (layer : Layer) → IsOfProfile profile layer
-        → Meets (grants_on layer) needs.now) }
-    ensures needed { IfOk result (λ profile. (layer : Layer) → IsOfProfile profile layer
-        → AreNeeded (λ less. Meets (grants_on less) needs.now) layer) }
-    ensures least { IfOk result (λ profile. profile.is_least ≡ true → IsLeastOf scope.now needs.now profile) }
+    ensures meets { IfOk result (MeetsNeeds sites.now chains.now scope.now needs.now) }
     ensures unmet { IfErr result (λ fault. (number : ℕ) → fault ≡ DraftFault.Unmet number
         → IsUnmet scope.now needs.now.asks.items number) }
     ensures none { IfErr result (λ fault. (number : ℕ) → fault ≡ DraftFault.Unmet number → (layer : Layer)
@@ -59,8 +53,8 @@ pub fn profile_of(
     let Ok(rules) = rules_of(alloc, &draft, needs, sites) else {
         return Err(DraftFault::NoMemory);
     };
-    Ok(Profile {
-        is_least: is_least(&draft, scope, needs),
+    Ok(LearnedProfile {
+        is_least: is_least(&draft, scope, needs, chains),
         handled: draft.handled,
         rules,
     })

@@ -1,6 +1,7 @@
 //! The least layer under which a program does what it did.
 #![tactic(auto)]
 
+mod alike;
 mod column;
 mod demand;
 mod draft;
@@ -10,22 +11,24 @@ mod laws;
 mod learned;
 mod lesson;
 mod needs;
+mod opening;
 mod profile;
 mod rules;
 mod site;
 mod solution;
 mod span;
+mod still;
 mod watch;
 
-pub use draft::{Draft, Reason, Scope};
-pub use fault::LearnFault;
+pub use draft::{Draft, Need, Scope};
+pub use fault::{LearnFault, Unlearned};
 pub use laws::{
-    asks_are_required, charged_is_least, draft_is_least, moves_are_theirs, need_is_reached,
-    same_replies, truncate_is_required,
+    asks_are_required, charged_is_least, draft_is_least, mended_is_least, moves_are_theirs,
+    need_is_reached, same_replies, truncate_is_required,
 };
-pub use learned::{Unlearned, Wanted, cut_of, learn, learn_at};
-pub use lesson::profile_of;
+pub use learned::{Aim, learn};
 pub use needs::{Asked, Moved, Needs, Origin};
-pub use profile::{Notes, Profile, Rule};
+pub use opening::cut_of;
+pub use profile::{LearnedProfile, LearnedRule, Notes};
 pub use site::{Site, Sites};
-pub use solution::{DraftFault, least_draft, reason_of};
+pub use solution::{DraftFault, least_draft, need_of};

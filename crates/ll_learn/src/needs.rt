@@ -3,14 +3,14 @@
 ghost use Rattle.std.specs.Prelude.{◌≡◌, ◌↔◌, ◌++◌, [], ◌∷◌, true, ℕ, Bool, List, None, IfOk, IsTrue, OnOk};
 ghost use Rattle.ll_rights.specs.Access.{is_within};
 ghost use Rattle.ll_learn.specs.Needs.{AreRooted, GivesNone, GrantsAll, HasAsk, HasMove, Meets, StartsAtRoot};
-ghost use Rattle.ll_learn.specs.There.{AsksMore};
+ghost use Rattle.ll_learn.specs.There.{AsksMore, MovesMore};
 
 use crate::index::PathIndex;
 use ll_rights::Access;
 use std::alloc::{AllocError, Global};
 
 /// An entry of one of several histories: the history's number, from 0, and the entry's, from 1.
-#[derive(Clone, Copy)]
+#[derive(Clone, Copy, Debug, PartialEq, Eq)]
 pub struct Origin {
     pub history: usize,
     pub entry: usize,
@@ -150,6 +150,8 @@ impl Needs {
     pub fn new(alloc: Global) -> Needs
         ensures meets { (grants : List ℕ → ℕ → Bool) → Meets grants result }
         ensures rooted { AreRooted result }
+        ensures asks { result.asks.items ≡ [] }
+        ensures moves { result.moves.items ≡ [] }
         ensures outside { result.outside ≡ None }
     {
         Needs {
@@ -197,6 +199,7 @@ impl Needs {
             ↔ (Meets grants self.old × GrantsAll grants rights.0 inodes.now)) }
         ensures rooted { OnOk result (AreRooted self.old → StartsAtRoot inodes.now → AreRooted self.new) }
         ensures asks { OnOk result (AsksMore (λ path. path ≡ inodes.now) self.old self.new) }
+        ensures moves { self.new.moves ≡ self.old.moves }
         ensures outside { self.new.outside ≡ self.old.outside }
     {
         if self.has_asked(rights, inodes) {
@@ -228,6 +231,7 @@ impl Needs {
         ensures rooted { OnOk result (AreRooted self.old → StartsAtRoot from.now → StartsAtRoot into.now
             → AreRooted self.new) }
         ensures asks { self.new.asks ≡ self.old.asks }
+        ensures moves { OnOk result (MovesMore (λ path. path ≡ from.now) self.old self.new) }
         ensures outside { self.new.outside ≡ self.old.outside }
     {
         if self.has_moved(rights, from, into) {

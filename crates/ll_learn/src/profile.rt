@@ -3,16 +3,19 @@
 ghost use Rattle.std.specs.Prelude.{◌≡◌, ◌++◌, ◌<◌, IfOk, OnOk, map, string_bytes};
 ghost use Rattle.std.specs.List.{concat, flat_map};
 ghost use Rattle.ll_path.specs.Word.{IsWord};
-ghost use Rattle.ll_learn.specs.Profile.{comment, head_line, profile_text, rule_text, toml_byte, toml_string};
+ghost use Rattle.ll_learn.specs.Profile.{call_of, calls_of, comment, head_line, profile_text, rule_text, toml_byte};
+ghost use Rattle.ll_learn.specs.Profile.{toml_string};
 
 use crate::needs::Origin;
-use ll_path::Path;
+use crate::site::copy_of;
+use ll_path::{Path, Target};
 use ll_rights::Access;
+use ll_seq::Call;
 use std::alloc::{AllocError, Global};
 
 /// A rule of a learned layer.
 #[derive(Drop)]
-pub struct Rule {
+pub struct LearnedRule {
     /// The node at the cut, and a path that names it there.
     pub inode: u64,
     pub path: Path,
@@ -35,11 +38,11 @@ pub trait Notes {
 
 /// A profile of one layer.
 #[derive(Drop)]
-pub struct Profile {
+pub struct LearnedProfile {
     /// Whether each layer under which the calls pass grants all that this one grants.
     pub is_least: bool,
     pub handled: Access,
-    pub rules: Vec<Rule>,
+    pub rules: Vec<LearnedRule>,
 }
 
 // Concatenates the parts.
@@ -96,7 +99,15 @@ fn comment<N: Notes>(alloc: Global, notes: &N, entry: Option<Origin>) -> Result<
     concat(alloc, &["# ", line.as_str()])
 }
 
-impl Rule {
+impl LearnedRule {
+    // The call that adds it to the client's first ruleset.
+    fn call(&self, alloc: Global) -> Result<Call, AllocError>
+        ensures { IfOk result (λ call. call ≡ call_of self.now) }
+    {
+        let path = copy_of(alloc, &self.path)?;
+        Ok(Call::Allow(0, Target::Good(path), self.rights))
+    }
+
     // Its table in the profile of this name.
     fn text<N: Notes>(&self, alloc: Global, notes: &N, name: &str) -> Result<String, AllocError>
         ensures { IfOk result (λ text. string_bytes text ≡ rule_text (N.note notes.now) name.now self.now) }
@@ -126,7 +137,7 @@ fn rules_text<N: Notes>(
     alloc: Global,
     notes: &N,
     name: &str,
-    rules: &[Rule],
+    rules: &[LearnedRule],
 ) -> Result<String, AllocError>
     ensures { IfOk result (λ text. string_bytes text ≡ flat_map (rule_text (N.note notes.now) name.now) rules.now) }
 {
@@ -138,7 +149,20 @@ fn rules_text<N: Notes>(
     Ok(text)
 }
 
-impl Profile {
+impl LearnedProfile {
+    /// Returns the calls by which a client that has created no ruleset gets this layer. Errors: memory ran out.
+    pub fn calls(&self, alloc: Global) -> Result<Vec<Call>, AllocError>
+        ensures { IfOk result (λ calls. calls.items ≡ calls_of self.now) }
+    {
+        let mut calls = Vec::with_capacity(alloc, self.rules.len())?;
+        calls.push(Call::Ruleset(self.handled))?;
+        for rule in &self.rules {
+            calls.push(rule.call(alloc)?)?;
+        }
+        calls.push(Call::Confine(0))?;
+        Ok(calls)
+    }
+
     /// Returns the profile's text under this name. Errors: memory ran out.
     pub fn text<N: Notes>(&self, alloc: Global, notes: &N, name: &str) -> Result<String, AllocError>
         ensures { IfOk result (λ text. string_bytes text ≡ profile_text (N.note notes.now) name.now self.now) }

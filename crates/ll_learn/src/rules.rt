@@ -10,11 +10,11 @@ ghost use Rattle.ll_learn.specs.Draft.{has};
 ghost use Rattle.ll_learn.specs.Lesson.{AreNamed, AreRulesOf, CanHold, IsNeededBy, gives, origin_of};
 ghost use Rattle.ll_learn.specs.Sites.{AreSites};
 
-use crate::draft::{Draft, Reason};
+use crate::draft::{Draft, Need};
 use crate::needs::{Needs, Origin};
-use crate::profile::Rule;
+use crate::profile::LearnedRule;
 use crate::site::{Site, Sites, copy_of};
-use crate::solution::reason_of;
+use crate::solution::need_of;
 use ll_rights::{Access, Right};
 use std::alloc::{AllocError, Global};
 
@@ -31,13 +31,13 @@ fn rights_on(draft: &Draft, inode: u64) -> Access
     }
 }
 
-// The entry that the reason is of.
-fn origin_of(reason: Reason) -> Origin
-    ensures { result ≡ origin_of reason }
+// The entry that the need is of.
+fn origin_of(need: Need) -> Origin
+    ensures { result ≡ origin_of need }
 {
-    match reason {
-        Reason::Asks(origin) => origin,
-        Reason::Moves(origin) => origin,
+    match need {
+        Need::Asks(origin) => origin,
+        Need::Moves(origin) => origin,
     }
 }
 
@@ -66,8 +66,8 @@ fn with_need(
     if !draft.has(right, inode) {
         return Ok(first);
     }
-    match reason_of(alloc, draft, needs, right, inode)? {
-        Some(reason) => Ok(Some(earlier(first, origin_of(reason)))),
+    match need_of(alloc, draft, needs, right, inode)? {
+        Some(need) => Ok(Some(earlier(first, origin_of(need)))),
         None => Ok(first),
     }
 }
@@ -94,7 +94,7 @@ fn rule_on(
     draft: &Draft,
     needs: &Needs,
     site: &Site,
-) -> Result<Option<Rule>, AllocError>
+) -> Result<Option<LearnedRule>, AllocError>
     ensures none { result ≡ Ok None → (right : ℕ) → right < 15 → has draft.now right site.now.inode ≡ false }
     ensures inode { IfOk result (λ found. IfSome found (λ rule. rule.inode ≡ site.now.inode)) }
     ensures path { IfOk result (λ found. IfSome found (λ rule. rule.path ≡ site.now.path)) }
@@ -111,7 +111,7 @@ fn rule_on(
     }
     let path = copy_of(alloc, &site.path)?;
     let needed_by = first_need(alloc, draft, needs, inode)?;
-    Ok(Some(Rule {
+    Ok(Some(LearnedRule {
         inode,
         path,
         rights,
@@ -120,7 +120,7 @@ fn rule_on(
 }
 
 // The rule comes behind the others.
-fn push_rule(rules: &mut Vec<Rule>, rule: Rule) -> Result<(), AllocError>
+fn push_rule(rules: &mut Vec<LearnedRule>, rule: LearnedRule) -> Result<(), AllocError>
     ensures { OnOk result (rules.new.items ≡ rules.old.items ++ rule ∷ []) }
 {
     match rules.push(rule) {
@@ -138,7 +138,7 @@ fn add_rule(
     draft: &Draft,
     needs: &Needs,
     site: &Site,
-    rules: &mut Vec<Rule>,
+    rules: &mut Vec<LearnedRule>,
 ) -> Result<(), AllocError>
     ensures rules { OnOk result ((inode right : ℕ) → right < 15 → list_any (gives inode right) rules.new.items
         ≡ (list_any (gives inode right) rules.old.items
@@ -158,7 +158,7 @@ pub(crate) fn rules_of(
     draft: &Draft,
     needs: &Needs,
     sites: &Sites,
-) -> Result<Vec<Rule>, AllocError>
+) -> Result<Vec<LearnedRule>, AllocError>
     requires { (inode right : ℕ) → right < 15 → has draft.now right inode ≡ true → CanHold sites.now inode right }
     ensures rules { IfOk result (λ rules. AreRulesOf draft.now rules.items) }
     ensures named { IfOk result (λ rules. (s : State) (all : ℕ) → AreSites s all sites.now

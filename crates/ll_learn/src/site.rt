@@ -1,18 +1,21 @@
 //! Where nodes are in a tree, and what rules on them may grant.
 
-ghost use Rattle.std.specs.Prelude.{◌≡◌, ◌<◌, ◌-◌, ◌^◌, ◌++◌, ◌∷◌, [], true, IfOk, IfSome, OnOk, None, length};
-ghost use Rattle.std.specs.Prelude.{option_and_then, string_bytes};
+ghost use Rattle.std.specs.Prelude.{◌≡◌, ◌<◌, ◌-◌, ◌^◌, ◌++◌, ◌==◌, ◌∷◌, [], ℕ, false, true, IfOk, IfSome, OnOk, None};
+ghost use Rattle.std.specs.Prelude.{Some, length, option_and_then, slice_get, string_bytes};
+ghost use Rattle.std.specs.List.{list_any};
+ghost use Rattle.std.specs.Option.{option_map_or};
+ghost use Rattle.ll_rights.specs.Kind.{is_dir};
 ghost use Rattle.ll_rights.specs.Map.{has};
-ghost use Rattle.ll_path.specs.Path.{path_of_text, path_refusals};
+ghost use Rattle.ll_path.specs.Path.{path_of_text, path_refusals, path_text};
 ghost use Rattle.ll_path.specs.Word.{IsWord};
-ghost use Rattle.ll_seq.specs.State.{State, child};
-ghost use Rattle.ll_seq.specs.Tree.{named};
-ghost use Rattle.ll_learn.specs.Sites.{AreSites, IsSite, may_grant};
+ghost use Rattle.ll_seq.specs.State.{Name, State, child, kind_of, names_in};
+ghost use Rattle.ll_seq.specs.Tree.{inode_of, named};
+ghost use Rattle.ll_learn.specs.Sites.{AreAll, AreSites, HasBelow, HasSite, IsLonger, IsReached, IsSite, IsSpelt};
+ghost use Rattle.ll_learn.specs.Sites.{may_grant};
 
 use ll_path::{Name, Path, Target, Word};
 use ll_plain::Plain;
-use ll_rights::limits::TREE_NODES;
-use ll_rights::{Access, Kind};
+use ll_rights::Access;
 use ll_seq::{Call, Listing, ROOT, Reply};
 use std::alloc::{AllocError, Global};
 
@@ -47,6 +50,16 @@ pub(crate) fn end_of(tree: &Plain, path: &Path) -> Option<u64>
     end
 }
 
+// Whether the inode is a directory's.
+fn is_dir(tree: &Plain, inode: u64) -> bool
+    ensures { result ≡ option_map_or is_dir (kind_of tree.now inode) false }
+{
+    match tree.kind(inode) {
+        Some(kind) => kind.is_dir(),
+        None => false,
+    }
+}
+
 // What a rule on the inode may grant of these rights.
 fn may_grant(tree: &Plain, all: Access, inode: u64) -> Access
     ensures { result.0 ≡ may_grant tree.now all.0 inode }
@@ -63,7 +76,10 @@ fn may_grant(tree: &Plain, all: Access, inode: u64) -> Access
 impl Site {
     // The node that the path names, where rules may grant of these rights. None if the path names none.
     fn of_path(tree: &Plain, all: Access, path: Path) -> Option<Site>
-        ensures { IfSome result (IsSite tree.now all.0) }
+        requires { IsSpelt path }
+        ensures site { IfSome result (IsSite tree.now all.0) }
+        ensures path { IfSome result (λ site. site.path ≡ path) }
+        ensures none { result ≡ None → named tree.now path ≡ None }
     {
         let inode = end_of(tree, &path)?;
         let may = may_grant(tree, all, inode);
@@ -85,6 +101,7 @@ fn word_of(alloc: Global, text: &str) -> Result<Word, AllocError>
 // The path that the text spells, if it spells one.
 fn path_of(text: String) -> Option<Path>
     ensures some { IfSome result (λ path. path ≡ path_of_text (string_bytes text)) }
+    ensures spelt { IfSome result IsSpelt }
     ensures none { result ≡ None → IsWord (string_bytes text) → path_refusals (string_bytes text) ≡ [] → ⊥ }
 {
     match Word::new(text) {
@@ -116,14 +133,26 @@ pub(crate) fn copy_of(alloc: Global, path: &Path) -> Result<Path, AllocError>
     }
 }
 
-// The path with one name more. None if it is too long.
-fn path_below(alloc: Global, path: &Path, name: &Name) -> Result<Option<Path>, AllocError> {
+// The text of the path with one name more.
+fn text_below(alloc: Global, path: &Path, name: &Name) -> Result<String, AllocError>
+    ensures text { IfOk result (λ text. string_bytes text ≡ path_text (path.now ++ name.now ∷ [])) }
+    ensures path { IfOk result (λ text. path_of_text (string_bytes text) ≡ path.now ++ name.now ∷ []) }
+{
     let mut text = String::from_str(alloc, path.as_str())?;
     if !path.is_root() {
         text.push_str("/")?;
     }
     text.push_str(name.as_str())?;
-    Ok(path_of(text))
+    Ok(text)
+}
+
+// The path with one name more. None if no word spells it.
+fn path_below(alloc: Global, path: &Path, name: &Name) -> Result<Option<Path>, AllocError>
+    ensures some { IfOk result (λ found. IfSome found (λ below. below ≡ path.now ++ name.now ∷ [])) }
+    ensures spelt { IfOk result (λ found. IfSome found IsSpelt) }
+    ensures none { IfOk result (λ found. found ≡ None → IsSpelt (path.now ++ name.now ∷ []) → ⊥) }
+{
+    Ok(path_of(text_below(alloc, path, name)?))
 }
 
 // The names in the directory, which the client may list.
@@ -135,7 +164,8 @@ fn names_in(
 ) -> Result<Listing, AllocError>
     requires caller { has tree.old.clients client ≡ true }
     requires next { tree.old.next < 2 ^ 64 - 1 }
-    ensures { OnOk result (tree.new ≡ tree.old) }
+    ensures same { OnOk result (tree.new ≡ tree.old) }
+    ensures names { IfOk result (λ names. names ≡ names_in tree.old (inode_of tree.old path.now)) }
 {
     let target = Target::read(word_of(alloc, path.as_str())?);
     match tree.apply(client, &Call::ReadDir(target), client) {
@@ -164,6 +194,8 @@ pub struct Sites {
 }
 
 impl Sites {
+    ghost use Rattle.ll_learn.specs.declared.site.Site as sites_of;
+
     // The root alone.
     fn of_root(alloc: Global, all: Access) -> Result<Sites, AllocError>
         ensures { IfOk result (λ sites. (s : State) → AreSites s all.0 sites) }
@@ -178,15 +210,20 @@ impl Sites {
         })
     }
 
-    // Whether the inode is among them.
-    fn has(&self, inode: u64) -> bool {
+    // Whether the inode's is among them.
+    fn has(&self, inode: u64) -> bool
+        ensures { result ≡ list_any (λ site. site.inode == inode) self.now.rows.items }
+    {
         self.rows.iter().any(|site| site.inode == inode)
     }
 
     // Adds the node that the path names, unless it is among them.
     fn add(&mut self, tree: &Plain, all: Access, path: Path) -> Result<(), AllocError>
-        requires { AreSites tree.now all.0 self.old }
-        ensures { OnOk result (AreSites tree.now all.0 self.new) }
+        requires spelt { IsSpelt path }
+        requires sites { AreSites tree.now all.0 self.old }
+        ensures sites { OnOk result (AreSites tree.now all.0 self.new) }
+        ensures more { OnOk result (IsLonger self.old self.new) }
+        ensures there { OnOk result ((inode : ℕ) → named tree.now path ≡ Some inode → HasSite self.new inode) }
     {
         let Some(site) = Site::of_path(tree, all, path) else {
             return Ok(());
@@ -195,6 +232,49 @@ impl Sites {
             return Ok(());
         }
         push_site(&mut self.rows, site)
+    }
+
+    // Adds the node under the name, right below the path, unless no word spells its path.
+    fn add_name(
+        &mut self,
+        alloc: Global,
+        tree: &Plain,
+        all: Access,
+        above: &Path,
+        name: &Name,
+    ) -> Result<(), AllocError>
+        requires { AreSites tree.now all.0 self.old }
+        ensures sites { OnOk result (AreSites tree.now all.0 self.new) }
+        ensures more { OnOk result (IsLonger self.old self.new) }
+        ensures there { OnOk result ((inode : ℕ) → IsSpelt (above.now ++ name.now ∷ [])
+            → named tree.now (above.now ++ name.now ∷ []) ≡ Some inode → HasSite self.new inode) }
+    {
+        match path_below(alloc, above, name)? {
+            Some(path) => self.add(tree, all, path),
+            None => Ok(()),
+        }
+    }
+
+    // The same for each of these names.
+    fn add_names(
+        &mut self,
+        alloc: Global,
+        tree: &Plain,
+        all: Access,
+        above: &Path,
+        names: &[Name],
+    ) -> Result<(), AllocError>
+        requires { AreSites tree.now all.0 self.old }
+        ensures sites { OnOk result (AreSites tree.now all.0 self.new) }
+        ensures more { OnOk result (IsLonger self.old self.new) }
+        ensures there { OnOk result ((index : ℕ) (name : Name) (inode : ℕ) → slice_get names.now index ≡ Some name
+            → IsSpelt (above.now ++ name ∷ []) → named tree.now (above.now ++ name ∷ []) ≡ Some inode
+            → HasSite self.new inode) }
+    {
+        for name in names {
+            self.add_name(alloc, tree, all, above, name)?;
+        }
+        Ok(())
     }
 
     // Adds what is directly below the node of this index.
@@ -212,23 +292,21 @@ impl Sites {
         requires sites { AreSites tree.old all.0 self.old }
         ensures same { OnOk result (tree.new ≡ tree.old) }
         ensures sites { OnOk result (AreSites tree.old all.0 self.new) }
+        ensures more { OnOk result (IsLonger self.old self.new) }
+        ensures below { OnOk result (IsReached tree.old → (site : sites_of.Site)
+            → slice_get self.old.rows.items index ≡ Some site → HasBelow tree.old self.new site) }
     {
         let directory = &self.rows[index];
-        if tree.kind(directory.inode) != Some(Kind::Dir) {
+        if !is_dir(tree, directory.inode) {
             return Ok(());
         }
         let above = copy_of(alloc, &directory.path)?;
         let names = names_in(alloc, tree, client, &directory.path)?;
-        for name in names.names() {
-            if let Some(path) = path_below(alloc, &above, name)? {
-                self.add(tree, all, path)?;
-            }
-        }
-        Ok(())
+        self.add_names(alloc, tree, all, &above, names.names())
     }
 
-    /// Returns the nodes with names, where rules may grant of these rights. The client, which has no layer, lists the
-    /// directories. Errors: memory ran out.
+    /// Returns the nodes that command lines can name, where rules may grant of these rights. The client, which has no
+    /// layer, lists the directories. Errors: memory ran out.
     pub fn of_tree(
         alloc: Global,
         tree: &mut Plain,
@@ -239,9 +317,11 @@ impl Sites {
         requires next { tree.old.next < 2 ^ 64 - 1 }
         ensures same { OnOk result (tree.new ≡ tree.old) }
         ensures sites { IfOk result (AreSites tree.old all.0) }
+        ensures all { IfOk result (λ sites. IsReached tree.old → AreAll tree.old sites) }
     {
         let mut sites = Sites::of_root(alloc, all)?;
-        for index in 0..TREE_NODES {
+        // What is below one row comes behind the others.
+        for index in 0..usize::MAX {
             if index >= sites.rows.len() {
                 return Ok(sites);
             }

@@ -4,13 +4,13 @@ ghost use Rattle.std.specs.Prelude.{◌≡◌, ◌<◌, ℕ, true, false, [], No
 ghost use Rattle.std.specs.List.{list_all};
 ghost use Rattle.ll_rules.specs.Layer.{Layer, grants_on};
 ghost use Rattle.ll_learn.specs.Columns.{is_at};
-ghost use Rattle.ll_learn.specs.Draft.{IsInScope, IsLeast, IsOf, IsReason, IsScope, IsUnmet, has, is_gainless};
+ghost use Rattle.ll_learn.specs.Draft.{IsDerived, IsInScope, IsLeast, IsOf, IsNeed, IsScope, IsUnmet, has, is_gainless};
 ghost use Rattle.ll_learn.specs.Draft.{is_granted, is_met, is_placed, is_restricted, may_have, without};
 ghost use Rattle.ll_learn.specs.Least.{AreNeeded};
 ghost use Rattle.ll_learn.specs.Needs.{AreRooted, Meets};
 
 use crate::column::{is_gainless_without, is_granted_without, least_column};
-use crate::draft::{Draft, Reason, Scope};
+use crate::draft::{Draft, Need, Scope};
 use crate::needs::{Asked, Moved, Needs};
 use ll_rights::Right;
 use std::alloc::{AllocError, Global};
@@ -88,9 +88,12 @@ fn draft_of(alloc: Global, needs: &Needs, scope: &Scope) -> Result<Draft, AllocE
 pub fn least_draft(alloc: Global, needs: &Needs, scope: &Scope) -> Result<Draft, DraftFault>
     requires scope { IsScope scope.now }
     requires rooted { AreRooted needs.now }
+    ensures handled { IfOk result (λ draft. draft.handled ≡ scope.now.handled) }
     ensures len { IfOk result (λ draft. length draft.rules.items ≡ length scope.now.may.items) }
     ensures placed { IfOk result (λ draft. (inode right : ℕ) → right < 15 → has draft right inode ≡ true
         → is_placed scope.now needs.now right inode ≡ true) }
+    ensures derived { IfOk result (λ draft. (inode right : ℕ) → right < 15 → has draft right inode ≡ true
+        → IsDerived scope.now needs.now right inode) }
     ensures within { IfOk result (λ draft. (layer : Layer) → IsOf draft layer → IsInScope scope.now layer) }
     ensures meets { IfOk result (λ draft. (layer : Layer) → IsOf draft layer → Meets (grants_on layer) needs.now) }
     ensures needed { IfOk result (λ draft. (layer : Layer) → IsOf draft layer
@@ -108,26 +111,26 @@ pub fn least_draft(alloc: Global, needs: &Needs, scope: &Scope) -> Result<Draft,
 }
 
 // The first ask that isn't granted without one inode's rule.
-fn first_ungranted(held: &[bool], out: u64, right: Right, asks: &[Asked]) -> Option<Reason>
-    ensures some { IfSome result (IsReason (without out (is_at held.now)) right asks.now []) }
+fn first_ungranted(held: &[bool], out: u64, right: Right, asks: &[Asked]) -> Option<Need>
+    ensures some { IfSome result (IsNeed (without out (is_at held.now)) right asks.now []) }
     ensures none { result ≡ None → list_all (is_granted (without out (is_at held.now)) right) asks.now ≡ true }
 {
     for asked in asks {
         if !is_granted_without(held, out, right, asked) {
-            return Some(Reason::Asks(asked.origin));
+            return Some(Need::Asks(asked.origin));
         }
     }
     None
 }
 
 // The first move that lets the right be gained without one inode's rule.
-fn first_gain(held: &[bool], out: u64, right: Right, moves: &[Moved]) -> Option<Reason>
-    ensures some { IfSome result (IsReason (without out (is_at held.now)) right [] moves.now) }
+fn first_gain(held: &[bool], out: u64, right: Right, moves: &[Moved]) -> Option<Need>
+    ensures some { IfSome result (IsNeed (without out (is_at held.now)) right [] moves.now) }
     ensures none { result ≡ None → list_all (is_gainless (without out (is_at held.now)) right) moves.now ≡ true }
 {
     for moved in moves {
         if !is_gainless_without(held, out, right, moved) {
-            return Some(Reason::Moves(moved.origin));
+            return Some(Need::Moves(moved.origin));
         }
     }
     None
@@ -135,21 +138,21 @@ fn first_gain(held: &[bool], out: u64, right: Right, moves: &[Moved]) -> Option<
 
 /// Why the rule on the inode has to hold the right: the first ask that isn't granted without it, or else the first
 /// move that would let it be gained. None if the needs are met without it.
-pub fn reason_of(
+pub fn need_of(
     alloc: Global,
     draft: &Draft,
     needs: &Needs,
     right: Right,
     inode: u64,
-) -> Result<Option<Reason>, AllocError>
+) -> Result<Option<Need>, AllocError>
     ensures some { IfOk result (λ found. IfSome found
-        (IsReason (without inode (has draft.now right)) right needs.now.asks.items needs.now.moves.items)) }
+        (IsNeed (without inode (has draft.now right)) right needs.now.asks.items needs.now.moves.items)) }
     ensures none { IfOk result (λ found. found ≡ None
         → is_met (without inode (has draft.now right)) right needs.now ≡ true) }
 {
     let held = draft.column(alloc, right)?;
     match first_ungranted(&held, inode, right, &needs.asks) {
-        Some(reason) => Ok(Some(reason)),
+        Some(need) => Ok(Some(need)),
         None => Ok(first_gain(&held, inode, right, &needs.moves)),
     }
 }

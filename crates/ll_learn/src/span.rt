@@ -1,46 +1,49 @@
 //! Which layers have rules on the nodes of a tree alone.
 
-ghost use Rattle.std.specs.Prelude.{◌≡◌, ◌<◌, ◌≤◌, ℕ, true, IfOk, length, slice_set};
+ghost use Rattle.std.specs.Prelude.{◌≡◌, ◌<◌, ◌==◌, ◌&&◌, ◌||◌, ℕ, true, All, IfOk, length};
 ghost use Rattle.ll_rights.specs.Access.{holds};
-ghost use Rattle.ll_learn.specs.Draft.{IsScope};
+ghost use Rattle.ll_learn.specs.Draft.{IsScope, right_at};
 ghost use Rattle.ll_learn.specs.Lesson.{AreOfSites, IsOfSites};
 ghost use Rattle.ll_learn.specs.Sites.{HasTop};
 
 use crate::draft::Scope;
 use crate::site::{Site, Sites};
 use ll_rights::Access;
-use ll_seq::ROOT;
 use std::alloc::{AllocError, Global};
 
-// One more than the greatest inode, or than the root's.
-fn count_of(rows: &[Site]) -> usize
-    ensures { 2 ≤ result }
+// One more than the greatest inode. Errors: no memory has room for so many.
+fn count_of(rows: &[Site]) -> Result<usize, AllocError>
+    ensures { IfOk result (λ count. All (λ site. site.inode < count) rows.now) }
 {
-    let mut count = ROOT as usize + 1;
+    let mut count = 0;
     for site in rows {
-        count = count.max((site.inode as usize).saturating_add(1));
+        let Some(above) = site.inode.checked_add(1) else {
+            return Err(AllocError);
+        };
+        count = count.max(above);
     }
-    count
+    Ok(count as usize)
 }
 
-// The inode's rule may hold these rights.
+// The inode's rule may hold these rights too.
 fn put(may: &mut Vec<Access>, inode: u64, rights: Access)
-    ensures { may.new.items ≡ slice_set may.old.items inode rights }
+    requires { inode < length may.old.items }
+    ensures len { length may.new.items ≡ length may.old.items }
+    ensures rights { (other right : ℕ) → right < 15 → right_at may.new.items right other
+        ≡ (right_at may.old.items right other || ((inode == other) && holds rights.0 right)) }
 {
     let site = inode as usize;
-    if site < may.len() {
-        may[site] = rights;
-    }
+    may[site] = may[site].with(rights);
 }
 
 // For each inode, by its number, what a rule on it may hold.
-fn may_of(alloc: Global, sites: &Sites, handled: Access) -> Result<Vec<Access>, AllocError>
-    ensures len { IfOk result (λ may. 2 ≤ length may.items) }
-    ensures sites { IfOk result (λ may. AreOfSites sites.now handled.0 may.items) }
+fn may_of(alloc: Global, sites: &Sites, held: Access) -> Result<Vec<Access>, AllocError>
+    ensures { IfOk result (λ may. AreOfSites sites.now held.0 may.items) }
 {
-    let mut may = vec![in alloc; Access(0); count_of(&sites.rows)]?;
+    let count = count_of(&sites.rows)?;
+    let mut may = vec![in alloc; Access(0); count]?;
     for site in &sites.rows {
-        put(&mut may, site.inode, Access(handled.0 & site.may.0));
+        put(&mut may, site.inode, Access(held.0 & site.may.0));
     }
     Ok(may)
 }
@@ -60,9 +63,9 @@ impl Sites {
         ensures handled { IfOk result (λ scope. scope.handled ≡ handled) }
         ensures scope { IfOk result IsScope }
         ensures sites { IfOk result (IsOfSites self.now) }
+        ensures all { IfOk result (λ scope. AreOfSites self.now held.0 scope.may.items) }
     {
-        let mut may = may_of(alloc, self, held)?;
-        put(&mut may, ROOT, held);
+        let may = may_of(alloc, self, held)?;
         let order = self.rows.iter().map(|site| site.inode).collect(alloc)?;
         Ok(Scope {
             handled,

@@ -1,10 +1,12 @@
-use Rattle.std.proofs.Common.{◌≡◌, true, ap, sym, ◌∙◌, inl, inr}
+use Rattle.std.proofs.Common.{◌≡◌, ℕ, List, true, ap, sym, subst, ◌∙◌, inl, inr}
 use Rattle.std.specs.List.{list_all}
 use Rattle.std.proofs.lemmas.Bool.{and_from, both_ways, or_cases, or_left, or_right}
 use Rattle.ll_learn.specs.Columns.{is_at}
-use Rattle.ll_learn.specs.Draft.{is_asked_at, is_gainless, is_granted, is_mended_at}
+use Rattle.ll_learn.specs.Draft.{IsSpread, is_asked_at, is_gainless, is_granted, is_mended_at, stands}
+use Rattle.ll_learn.specs.declared.needs.Moved.{Moved}
 use Rattle.ll_learn.proofs.Columns.{all_more, granted_more}
 use Rattle.ll_learn.proofs.Places.{asked_may}
+use Rattle.ll_learn.proofs.Spreads.{spread_on}
 use Rattle.ll_learn.proofs.column.least_column.Goals as goal
 
 pub prune-requires : goal.prune-requires
@@ -40,6 +42,14 @@ returns-clause-least c =
     let charged = c.charge.new.held.items in
     let asks = c.deref.result.now in
     let moves = c.deref-2.result.now in
+    let from_asked : (inode : ℕ) → is_at charged inode ≡ true
+    → IsSpread scope right moves (is_asked_at scope right needs.asks.items) inode =
+    λ inode before. elim (or_cases (is_at first inode) (is_asked_at scope right asks inode)
+    (c.charge.ensures.grows.within inode before)) [
+      | inl none ↦ absurd (both_ways (is_at first inode) (c.in_ok-held.ensures.none inode) none)
+      | inr asked ↦
+          stands inode (ap (λ xs. is_asked_at scope right xs inode) (sym c.deref.ensures.value) ∙ asked)
+    ] in
     record {
       placed = λ inode at.
           elim (or_cases (is_at charged inode) (is_mended_at scope right moves inode)
@@ -56,6 +66,11 @@ returns-clause-least c =
                 (is_mended_at scope right needs.moves.items inode)
                 (ap (λ xs. is_mended_at scope right xs inode) (sym c.deref-2.ensures.value) ∙ mended)
           ];
+      derived = λ inode at.
+          subst (λ (xs : List Moved). IsSpread scope right xs (is_asked_at scope right needs.asks.items) inode)
+          c.deref-2.ensures.value
+          (spread_on scope right moves (is_at charged) (is_asked_at scope right needs.asks.items) from_asked inode
+          (c.close.ensures.spread inode (c.prune.ensures.shrinks.within inode at)));
       met = λ _. c.prune.ensures.met;
       needed = c.prune.ensures.needed;
     }

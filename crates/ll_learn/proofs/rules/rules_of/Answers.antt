@@ -1,8 +1,7 @@
-use Rattle.std.proofs.Common.{◌≡◌, ◌<◌, ◌≤◌, ◌==◌, ◌&&◌, ◌||◌, ◌∙◌, ℕ, Bool, Some, ap, sym, take, length, get_or, List}
-use Rattle.std.proofs.Common.{subst, eq-eqb, true}
+use Rattle.std.proofs.Common.{◌≡◌, ◌<◌, ◌≤◌, ◌==◌, ◌&&◌, ◌||◌, ◌∙◌, Bool, Some, ap, sym, take, length, get_or, List}
+use Rattle.std.proofs.Common.{subst, eq-eqb}
 use Rattle.std.specs.List.{list_any}
 use Rattle.std.proofs.lemmas.List.{take_all}
-use Rattle.ll_seq.specs.State.{State}
 use Rattle.ll_seq.specs.Tree.{named}
 use Rattle.ll_learn.specs.declared.site.Site.{Site}
 use Rattle.ll_learn.specs.Draft.{has}

@@ -1,8 +1,8 @@
-use Rattle.std.proofs.Common.{◌≡◌, ◌⊎◌, inl, inr, Option, Some, None, subst, sym, refl}
+use Rattle.std.proofs.Common.{◌≡◌, ◌⊎◌, inl, inr, Option, Some, subst, sym}
 use Rattle.std.specs.Prelude.{IfSome}
 use Rattle.ll_learn.specs.declared.needs.Origin.{Origin}
-use Rattle.ll_learn.specs.declared.draft.Reason.{Reason}
-use Rattle.ll_learn.specs.Draft.{IsReason, has, without}
+use Rattle.ll_learn.specs.declared.draft.Need.{Need}
+use Rattle.ll_learn.specs.Draft.{IsNeed, has, without}
 use Rattle.ll_learn.specs.Lesson.{IsNeededBy}
 use Rattle.ll_learn.proofs.rules.with_need.Goals as goal
 
@@ -20,9 +20,9 @@ returns-in-Some c old =
     let needs = c.args.needs.now in
     let inode = c.args.inode in
     let right = c.args.right in
-    let P : Reason → Type 0 =
-    λ r. IsReason (without inode (has draft right)) right needs.asks.items needs.moves.items r in
-    let is : P c.in-Some.reason =
-    subst (λ (o : Option Reason). IfSome o P) c.in-Some.is c.in_ok-reason.ensures.some in
+    let P : Need → Type 0 =
+    λ r. IsNeed (without inode (has draft right)) right needs.asks.items needs.moves.items r in
+    let is : P c.in-Some.need =
+    subst (λ (o : Option Need). IfSome o P) c.in-Some.is c.in_ok-need.ensures.some in
     either (IsNeededBy draft needs inode) c.args.first c.origin_of.result c.earlier.result old
-    (right, c.in-Some.reason, is, sym c.origin_of.ensures) c.earlier.ensures
+    (right, c.in-Some.need, is, sym c.origin_of.ensures) c.earlier.ensures

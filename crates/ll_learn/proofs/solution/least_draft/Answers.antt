@@ -32,3 +32,6 @@ returns-clause-needed c layer is =
 
 pub returns-clause-placed : goal.returns-clause-placed
 returns-clause-placed c inode right known at = (c.in_ok-draft.ensures.least right known).placed inode at
+
+pub returns-clause-derived : goal.returns-clause-derived
+returns-clause-derived c inode right known at = (c.in_ok-draft.ensures.least right known).derived inode at

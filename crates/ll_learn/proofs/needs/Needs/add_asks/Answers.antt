@@ -6,7 +6,8 @@ use Rattle.ll_learn.specs.Needs.{StartsAtRoot}
 use Rattle.ll_decide.specs.declared.demands.On.{On}
 use Rattle.ll_why.specs.Reasons.{chain_of}
 use Rattle.ll_learn.proofs.Asking.{collected}
-use Rattle.ll_learn.proofs.There.{asks_joined, asks_same, asks_weaker}
+use Rattle.ll_learn.proofs.There.{asks_joined, asks_same, asks_weaker, moves_joined, moves_same}
+use Rattle.ll_learn.proofs.There.{moves_weaker}
 use Rattle.ll_learn.proofs.needs.Needs.add_asks.Goals as goal
 
 pub returns-clause-meets : goal.returns-clause-meets
@@ -53,3 +54,19 @@ returns-clause-asks c =
     let moves = asks_same IsOne n4 n6 (c.add_move-2.ensures.asks ∙ c.in_ok-add_move.ensures.asks) in
     on_ok_weaker c.add_move-2.result (λ last. asks_joined IsOne n0 n1 n6 one (asks_joined IsOne n1 n2 n6 two
     (asks_joined IsOne n2 n3 n6 three (asks_joined IsOne n3 n4 n6 four moves)))) c.add_move-2.ensures.meets
+
+pub returns-clause-moves : goal.returns-clause-moves
+returns-clause-moves c =
+    let asks = c.args.asks.now in
+    let IsOne : List ℕ → Type 0 = λ path. (on : On) × (path ≡ chain_of asks on) in
+    let n0 = c.args.self.now in
+    let n4 = c.add_ask-4.new.self in
+    let n5 = c.add_move.new.self in
+    let n6 = c.add_move-2.new.self in
+    let asked = moves_same IsOne n0 n4 (c.in_ok-add_ask-4.ensures.moves ∙ c.in_ok-add_ask-3.ensures.moves
+    ∙ c.in_ok-add_ask-2.ensures.moves ∙ c.in_ok-add_ask.ensures.moves) in
+    let five = moves_weaker _ IsOne n4 n5 (λ path is. (Itself, is ∙ c.as_slice-itself.ensures.value))
+    c.in_ok-add_move.ensures.moves in
+    on_ok_weaker c.add_move-2.result (λ last. moves_joined IsOne n0 n4 n6 asked (moves_joined IsOne n4 n5 n6 five
+    (moves_weaker _ IsOne n5 n6 (λ path is. (Other, is ∙ c.as_slice-other.ensures.value)) last)))
+    c.add_move-2.ensures.moves

@@ -1,7 +1,7 @@
 use Rattle.std.specs.Prelude.{◌≡◌, List, ℕ, Option, Some, unwrap_or, refl}
 use Rattle.ll_why.specs.Reasons.{chain_of}
-use Rattle.ll_learn.specs.There.{IsAskedOn}
-use Rattle.ll_learn.proofs.There.{asks_same, asks_weaker}
+use Rattle.ll_learn.specs.There.{IsAskedOn, IsOfPath}
+use Rattle.ll_learn.proofs.There.{asks_same, asks_weaker, moves_same, moves_weaker}
 use Rattle.std.proofs.Common.{ap, inl, inr, subst, sym, ◌∙◌}
 use Rattle.std.proofs.lemmas.Result.{on_ok_weaker}
 use Rattle.ll_decide.specs.declared.demands.On.{On}
@@ -90,3 +90,29 @@ returns-clause-asks c =
     (IsAskedOn c.args.tree.now c.args.watch.now.clients.items c.args.entry.now.client) c.args.self.now
     c.add_asks.new.self (λ path is. inl (path_on (first_path call) (second_path call) is.0, is.1 ∙ asked.chains is.0))
     more) c.add_asks.ensures.asks
+
+pub returns-then-not-is_on-clause-moves : goal.returns-then-not-is_on-clause-moves
+returns-then-not-is_on-clause-moves c =
+    moves_same (IsOfPath c.args.tree.now) c.args.self.now c.args.self.now refl
+
+pub returns-in_default-found_for-clause-moves : goal.returns-in_default-found_for-clause-moves
+returns-in_default-found_for-clause-moves c =
+    moves_same (IsOfPath c.args.tree.now) c.args.self.now c.args.self.now refl
+
+pub returns-in-None-clause-moves : goal.returns-in-None-clause-moves
+returns-in-None-clause-moves c =
+    moves_same (IsOfPath c.args.tree.now) c.args.self.now c.args.self.now refl
+
+pub returns-in-Some-opened-clause-moves : goal.returns-in-Some-opened-clause-moves
+returns-in-Some-opened-clause-moves c =
+    on_ok_weaker c.add_ask.result (λ more. moves_same (IsOfPath c.args.tree.now) c.args.self.now c.add_ask.new.self
+    c.add_ask.ensures.moves) c.add_ask.ensures.asks
+
+pub returns-clause-moves : goal.returns-clause-moves
+returns-clause-moves c =
+    let call = c.args.entry.now.call in
+    let asked = c.in_ok-asks.ensures c.in-Some.caller.now c.in-Some-found_for.ensures.passed in
+    on_ok_weaker c.add_asks.result (λ more. moves_weaker (λ path. (on : On) × (path ≡ chain_of c.in_ok-asks.asks on))
+    (IsOfPath c.args.tree.now) c.args.self.now c.add_asks.new.self
+    (λ path is. (path_on (first_path call) (second_path call) is.0, is.1 ∙ asked.chains is.0)) more)
+    c.add_asks.ensures.moves

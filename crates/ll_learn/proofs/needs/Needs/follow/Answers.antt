@@ -1,7 +1,8 @@
 use Rattle.std.specs.Prelude.{◌≡◌, List, Some, None, not, ◌&&◌, if◌then◌else◌, refl}
 use Rattle.std.specs.Option.{option_or}
-use Rattle.ll_learn.specs.There.{IsAskedIn, IsAskedOn}
-use Rattle.ll_learn.proofs.There.{asked_known, asks_joined, asks_same, asks_weaker}
+use Rattle.ll_learn.specs.There.{IsAskedIn, IsAskedOn, IsOfPath}
+use Rattle.ll_learn.proofs.There.{asked_known, asks_joined, asks_same, asks_weaker, moves_joined}
+use Rattle.ll_learn.proofs.There.{moves_same}
 use Rattle.std.proofs.Common.{ap, subst, sym, ◌∙◌}
 use Rattle.ll_rights.specs.Map.{has}
 use Rattle.ll_rules.specs.Layer.{grants_on}
@@ -61,6 +62,9 @@ returns-clause-ok c is_on known watch =
           (λ on fd. watch.knows e.client fd (sym (watch.on e.client) ∙ on))) c.in_ok-add_call.ensures.asks)
           (asks_same (IsAskedIn s known e.client) c.add_call.new.self c.note_outside.new.self
           c.note_outside.ensures.asks);
+      moves = moves_joined (IsOfPath s) c.args.self.now c.add_call.new.self c.note_outside.new.self
+          c.in_ok-add_call.ensures.moves
+          (moves_same (IsOfPath s) c.add_call.new.self c.note_outside.new.self c.note_outside.ensures.moves);
       outside = c.note_outside.ensures.outside
           ∙ (λ i. option_or (c.in_ok-add_call.ensures.outside i)
           (if is_moved e && not (ours i) then Some c.args.origin else None));

@@ -1,9 +1,4 @@
-use Rattle.std.proofs.Common.{◌≡◌, ◌∷◌, [], Some, ap, refl, sym, subst, ◌∙◌, List}
-use Rattle.std.specs.Prelude.{All, slice_get}
-use Rattle.ll_seq.specs.State.{root}
-use Rattle.ll_seq.specs.Tree.{named}
-use Rattle.ll_learn.specs.declared.site.Site.{Site}
-use Rattle.ll_learn.specs.Sites.{IsSite}
+use Rattle.std.proofs.Common.{refl}
 use Rattle.ll_learn.proofs.Among.{one_site}
 use Rattle.ll_learn.proofs.site.Sites.of_root.Goals as goal
 
