@@ -18,11 +18,11 @@ use Rattle.ll_wire.specs.Transcript.{Writes}
 use Rattle.ll_wire.proofs.WrittenText.{appends-none}
 use Rattle.ll_session.specs.declared.calls_run.CallReplies.{CallReplies}
 use Rattle.ll_session.specs.declared.setup.Setup.{Setup}
-use Rattle.ll_options.specs.Options.{CheckOrder}
-use Rattle.ll_runs.specs.declared.checked.Checked.{Checked}
-use Rattle.ll_runs.specs.declared.checked.Checked.TheVariants.{BadLine}
-use Rattle.ll_runs.specs.declared.failure.Failure.{Failure}
-use Rattle.ll_runs.specs.Policy.{IsSetBy, IsSetup, Lacks}
+use Rattle.ll_program.specs.Options.{CheckOrder, checked_tree}
+use Rattle.ll_program.specs.declared.checked.Checked.{Checked}
+use Rattle.ll_program.specs.declared.checked.Checked.TheVariants.{BadLine}
+use Rattle.ll_program.specs.declared.failure.Failure.{Failure}
+use Rattle.ll_program.specs.Policy.{IsSetBy, IsSetup, Lacks}
 use Rattle.ll_check.specs.declared.checks.NamedText.{NamedText}
 use Rattle.ll_check.specs.declared.checks.ReadFile.{ReadFile}
 use Rattle.ll_check.specs.declared.judging.Detail.{Detail}
@@ -32,7 +32,7 @@ use Rattle.ll_check.specs.declared.reading.CheckFault.TheVariants as faults
 use Rattle.ll_check.specs.declared.reading.Test.{Test}
 use Rattle.ll_check.specs.Checks.{IsFirstBad}
 use Rattle.ll_check.specs.Files.{AreChecked, AreTestsOf, Concludes, HasBadLine, IsCheck, IsFileChecked, IsReadAs}
-use Rattle.ll_check.specs.Files.{IsSetFor, MayFail, Tests, detail_of, has_test, room_for, run_of, source_of, tests_of}
+use Rattle.ll_check.specs.Files.{IsSetFor, MayFail, Tests, detail_of, has_test, room_for, source_of, tests_of}
 use Rattle.ll_check.specs.Report.{IsChecked}
 
 -- ---- files that are read
@@ -142,21 +142,23 @@ module _ (order : CheckOrder) (policy : List ℕ) where
 
 -- ---- setups
 
+-- room is for the calls of a loader and of a profile
+pub same_room : (old new : Setup) (tests : ℕ) → new.loader ≡ old.loader → new.profile ≡ old.profile
+    → room_for old tests ≡ room_for new tests
+same_room old new tests loader profile = ap₂ (λ (l : Option (Vec Call Global)) (p : Vec Call Global).
+    min (option_map_or (λ (calls : Vec Call Global). length calls.items) l 0 + length p.items + tests + 2)
+    HISTORY_ENTRIES) (sym loader) (sym profile)
+
 -- the same setup with other room in its history
 pub with_room : (order : CheckOrder) (policy : List ℕ) (room tests : ℕ) (old new : Setup)
-    → IsSetup (run_of order room) policy old → new.rules ≡ old.rules → new.nodes ≡ old.nodes
+    → IsSetup (checked_tree order room) policy old → new.rules ≡ old.rules → new.nodes ≡ old.nodes
     → new.history ≡ room_for old tests → new.loader ≡ old.loader → new.profile ≡ old.profile
     → IsSetFor order policy tests new
 with_room order policy room tests old new is rules nodes history loader profile =
-    (nodes ∙ is.0, history ∙ same, go order.policy is.2)
+    (nodes ∙ is.0, history ∙ same_room old new tests loader profile, go order.policy is.2)
   where
-    same : room_for old tests ≡ room_for new tests
-    same = ap₂ (λ (l : Option (Vec Call Global)) (p : Vec Call Global).
-        min (option_map_or (λ (calls : Vec Call Global). length calls.items) l 0 + length p.items + tests + 2)
-        HISTORY_ENTRIES) (sym loader) (sym profile)
-
-    go : (file : Option (List ℕ)) → IsSetBy file (run_of order room) policy old
-        → IsSetBy file (run_of order (room_for new tests)) policy new
+    go : (file : Option (List ℕ)) → IsSetBy file (checked_tree order room) policy old
+        → IsSetBy file (checked_tree order (room_for new tests)) policy new
     go None by = record {
       rules = rules ∙ by.rules;
       loader = loader ∙ by.loader;
@@ -179,10 +181,10 @@ some_text (Some file) some = refl
 -- a policy is named, and it gives no setup
 pub no_setup : (order : CheckOrder) (policy text : List ℕ) (file : Option (Bor (List ℕ))) (failure : Failure)
     → order.policy ≡ option_map (λ t. t.now) file → is_some file ≡ true → text ≡ policy
-    → Lacks (run_of order HISTORY_ENTRIES) text failure → MayFail order policy failure
+    → Lacks (checked_tree order HISTORY_ENTRIES) text failure → MayFail order policy failure
 no_setup order policy text file failure named some is lacks = inl (
   ap is_some named ∙ some_text file some,
-  subst (λ (x : List ℕ). Lacks (run_of order HISTORY_ENTRIES) x failure) is lacks,
+  subst (λ (x : List ℕ). Lacks (checked_tree order HISTORY_ENTRIES) x failure) is lacks,
 )
 
 -- ---- what a check ends with

@@ -1,7 +1,9 @@
 pub mod Bodies
+pub mod Courses
 pub mod Files
 pub mod Fronts
 pub mod Judges
+pub mod Taught
 pub mod Tests
 pub mod Told
 pub mod Verdicts

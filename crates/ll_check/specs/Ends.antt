@@ -1,14 +1,14 @@
 -- How the program's check ends. own
 use Rattle.std.specs.Prelude.{⊤, ◌≡◌, ℕ, List, Option, Result, Ok, Err, IfSome}
 use Rattle.std.specs.List.{AllZip}
-use Rattle.ll_options.specs.Options.{CheckOrder}
-use Rattle.ll_runs.specs.declared.conclusion.Conclusion.{Conclusion}
-use Rattle.ll_runs.specs.declared.conclusion.Conclusion.TheVariants.{Done, Judged, Stopped}
-use Rattle.ll_runs.specs.declared.conclusion.Conclusion.TheVariants as conclusion
-use Rattle.ll_runs.specs.declared.checked.Checked.{Checked}
-use Rattle.ll_runs.specs.declared.failure.Failure.{Failure}
-use Rattle.ll_runs.specs.declared.failure.Failure.TheVariants.{File}
-use Rattle.ll_runs.specs.Sources.{named, text_in}
+use Rattle.ll_program.specs.Options.{CheckOrder}
+use Rattle.ll_program.specs.declared.conclusion.Conclusion.{Conclusion}
+use Rattle.ll_program.specs.declared.conclusion.Conclusion.TheVariants.{Done, Judged, Stopped}
+use Rattle.ll_program.specs.declared.conclusion.Conclusion.TheVariants as conclusion
+use Rattle.ll_program.specs.declared.checked.Checked.{Checked}
+use Rattle.ll_program.specs.declared.failure.Failure.{Failure}
+use Rattle.ll_program.specs.declared.failure.Failure.TheVariants.{File}
+use Rattle.ll_program.specs.Sources.{named, text_in}
 use Rattle.ll_check.specs.Files.{IsCheck, MayFail, Source}
 
 -- the file of this name, with the text that it has where this is known

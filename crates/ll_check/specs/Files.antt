@@ -10,13 +10,13 @@ use Rattle.ll_session.specs.declared.calls_run.CallReplies.{CallReplies}
 use Rattle.ll_session.specs.declared.fault.RunFault.{RunFault}
 use Rattle.ll_session.specs.declared.setup.Setup.{Setup}
 use Rattle.ll_session.specs.Run.{MayEnd}
-use Rattle.ll_options.specs.Options.{CheckOrder, RunOrder}
-use Rattle.ll_runs.specs.declared.checked.Checked.{Checked}
-use Rattle.ll_runs.specs.declared.checked.Checked.TheVariants.{BadLine, Failed, Passed}
-use Rattle.ll_runs.specs.declared.failure.Failure.{Failure}
-use Rattle.ll_runs.specs.declared.failure.Failure.TheVariants.{NoMemory, Output}
-use Rattle.ll_runs.specs.Failure.{failure_of}
-use Rattle.ll_runs.specs.Policy.{IsSetup, Lacks}
+use Rattle.ll_program.specs.Options.{CheckOrder, checked_tree}
+use Rattle.ll_program.specs.declared.checked.Checked.{Checked}
+use Rattle.ll_program.specs.declared.checked.Checked.TheVariants.{BadLine, Failed, Passed}
+use Rattle.ll_program.specs.declared.failure.Failure.{Failure}
+use Rattle.ll_program.specs.declared.failure.Failure.TheVariants.{NoMemory, Output}
+use Rattle.ll_program.specs.Failure.{failure_of}
+use Rattle.ll_program.specs.Policy.{IsSetup, Lacks}
 use Rattle.ll_check.specs.declared.checks.NamedText.{NamedText}
 use Rattle.ll_check.specs.declared.checks.ReadFile.{ReadFile}
 use Rattle.ll_check.specs.declared.judging.Detail.{Detail}
@@ -60,23 +60,9 @@ room_for setup tests =
     min (option_map_or (λ calls. length calls.items) setup.loader 0 + length setup.profile.items + tests + 2)
     HISTORY_ENTRIES
 
--- a run in the tree that these words ask for, with this room
-abbrev pub run_of : CheckOrder → (room : ℕ) → RunOrder
-run_of order room =
-    record {
-      script = [];
-      nodes = order.nodes;
-      level = order.level;
-      history = room;
-      policy = order.policy;
-      profile = order.profile;
-      save = None;
-      strict = false;
-    }
-
 -- the setup of a file's tree, where the policy's file has this text
 abbrev pub IsSetFor : CheckOrder → (policy : List ℕ) → (tests : ℕ) → Setup → Type 0
-IsSetFor order policy tests setup = IsSetup (run_of order (room_for setup tests)) policy setup
+IsSetFor order policy tests setup = IsSetup (checked_tree order (room_for setup tests)) policy setup
 
 -- ---- how files are checked
 
@@ -121,7 +107,7 @@ IsCheck order policy sources end written =
 -- file's tests, or the report can't be written, or want of memory
 abbrev pub MayFail : CheckOrder → (policy : List ℕ) → Failure → Type 0
 MayFail order policy failure =
-    ((is_some order.policy ≡ true) × Lacks (run_of order HISTORY_ENTRIES) policy failure)
+    ((is_some order.policy ≡ true) × Lacks (checked_tree order HISTORY_ENTRIES) policy failure)
     ⊎ ((tests : ℕ) × (setup : Setup) × (fault : RunFault) × IsSetFor order policy tests setup × MayEnd setup fault
     × (failure ≡ failure_of fault))
     ⊎ (failure ≡ Output) ⊎ (failure ≡ NoMemory)

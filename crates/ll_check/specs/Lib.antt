@@ -1,6 +1,7 @@
 pub mod Checks
 pub mod Ends
 pub mod Files
+pub mod Lessons
 pub mod Replied
 pub mod Report
 pub mod Wanted

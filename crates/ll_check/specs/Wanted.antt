@@ -9,6 +9,7 @@ use Rattle.ll_seq.specs.declared.reply.Reply.{Reply}
 use Rattle.ll_seq.specs.declared.reply.Reply.TheVariants as reply
 use Rattle.ll_wire.specs.FirstWords.{Begins, first_told, first_tokens}
 use Rattle.ll_wire.specs.Grammar.{IsReply, reply_tokens}
+use Rattle.ll_wire.specs.declared.first_words.FirstWords.TheVariants as first
 use Rattle.ll_check.specs.declared.wanted.Wanted.{Wanted}
 use Rattle.ll_check.specs.declared.wanted.Wanted.TheVariants.{Success, Allowed, Denied, DeniedRight, DeniedAt, Whole}
 use Rattle.ll_check.specs.declared.wanted.Wanted.TheVariants.{First}
@@ -38,6 +39,15 @@ Satisfies (DeniedAt right place) got =
     (denial : Denial) × (got ≡ reply.Denied denial) × (denial.right ≡ right) × (denial.place ≡ place)
 Satisfies (Whole given) got = got ≡ given
 Satisfies (First words) got = Begins words got
+
+-- a denial is wanted, or what begins as one
+abbrev pub wants_denial : Wanted → Bool
+wants_denial Denied = true
+wants_denial (DeniedRight right) = true
+wants_denial (DeniedAt right place) = true
+wants_denial (Whole (reply.Denied denial)) = true
+wants_denial (First (first.Denied told)) = true
+wants_denial _ = false
 
 -- when what is wanted has a spelling behind a command, and its text. Success is wanted where nothing is behind it
 abbrev pub wanted_told : Wanted → Type 0 × List ℕ

@@ -5,8 +5,8 @@ ghost use Rattle.std.specs.Option.{option_map_or};
 ghost use Rattle.ll_rights.specs.declared.limits.TheConstants.{HISTORY_ENTRIES};
 ghost use Rattle.std.specs.List.{AllZip, list_all};
 ghost use Rattle.ll_wire.specs.Transcript.{Writes};
-ghost use Rattle.ll_options.specs.Options.{checked_in};
-ghost use Rattle.ll_runs.specs.declared.checked.Checked as checked;
+ghost use Rattle.ll_program.specs.Options.{checked_in};
+ghost use Rattle.ll_program.specs.declared.checked.Checked as checked;
 ghost use Rattle.ll_check.specs.Files.{AreChecked, Concludes, HasBadLine, IsCheck, IsFileChecked, IsReadAs, IsSetFor};
 ghost use Rattle.ll_check.specs.Files.{MayFail};
 ghost use Rattle.ll_check.specs.Files.{detail_of, end_of, has_test, room_for, source_of, sum_line, tests_of};
@@ -14,9 +14,8 @@ ghost use Rattle.ll_check.specs.Files.{detail_of, end_of, has_test, room_for, so
 use crate::{
     CheckFault, Checks, Detail, LinesOf, Notes, Reporter, Tally, check_file, explain, tell_denied,
 };
-use ll_options::{CheckOptions, RunOptions};
+use ll_program::{CheckOptions, Checked, Failure, header_of, setup_of};
 use ll_rights::limits::HISTORY_ENTRIES;
-use ll_runs::{Checked, Failure, header_of, setup_of};
 use ll_session::Setup;
 use std::alloc::{AllocError, Global};
 use std::io::Write;
@@ -38,11 +37,11 @@ pub struct CheckInput<'a, 'w> {
     pub files: &'a [NamedText<'w>],
 }
 
-// A file that is read: its name, and its tests.
+/// A file that is read: its name, and its tests.
 #[derive(Drop)]
-struct ReadFile<'w> {
-    name: &'w str,
-    checks: Checks,
+pub(crate) struct ReadFile<'w> {
+    pub name: &'w str,
+    pub checks: Checks,
 }
 
 impl ReadFile<'_> {
@@ -53,15 +52,18 @@ impl ReadFile<'_> {
     }
 }
 
-// Why a file can't be read, and which of them, from 0.
+/// Why a file can't be read, and which of them, from 0.
 #[derive(Clone, Copy)]
-struct BadFile {
+pub(crate) struct BadFile {
     file: usize,
     fault: CheckFault,
 }
 
-// What all files say, up to the first that can't be read.
-fn read_all<'w>(alloc: Global, texts: &[NamedText<'w>]) -> Result<Vec<ReadFile<'w>>, BadFile>
+/// What all files say, up to the first that can't be read.
+pub(crate) fn read_all<'w>(
+    alloc: Global,
+    texts: &[NamedText<'w>],
+) -> Result<Vec<ReadFile<'w>>, BadFile>
     ensures read { IfOk result (λ files. AllZip IsReadAs texts.now files.items) }
     ensures bad { IfErr result (λ bad. (line : ℕ) → bad.fault ≡ CheckFault.BadLine line
         → HasBadLine (map source_of texts.now)) }
@@ -108,8 +110,8 @@ fn room_of(setup: &Setup, tests: usize) -> usize
         .min(HISTORY_ENTRIES)
 }
 
-// The setup with room in its history for so many tests.
-fn with_room(mut setup: Setup, tests: usize) -> Setup
+/// The setup with room in its history for so many tests.
+pub(crate) fn with_room(mut setup: Setup, tests: usize) -> Setup
     ensures rules { result.rules ≡ setup.rules }
     ensures nodes { result.nodes ≡ setup.nodes }
     ensures history { result.history ≡ room_for setup tests }
@@ -130,18 +132,8 @@ fn setup_for(
     ensures setup { IfOk result (IsSetFor (checked_in options.now) policy.now tests) }
     ensures failure { IfErr result (MayFail (checked_in options.now) policy.now) }
 {
-    let run = RunOptions {
-        script: "",
-        nodes: options.nodes,
-        level: options.level,
-        history: HISTORY_ENTRIES,
-        policy: options.policy,
-        profile: options.profile,
-        save: None,
-        strict: false,
-    };
     let mut text = policy;
-    match setup_of(alloc, &run, &mut text) {
+    match setup_of(alloc, &options.tree(), &mut text) {
         Ok(setup) => Ok(with_room(setup, tests)),
         Err(failure) => Err(failure),
     }
@@ -257,15 +249,15 @@ fn are_tested(files: &[ReadFile<'_>]) -> bool
     files.iter().all(|file| file.has_test())
 }
 
-// Whether each file has a test.
-fn have_tests(files: &[ReadFile<'_>]) -> bool
+/// Whether each file has a test.
+pub(crate) fn have_tests(files: &[ReadFile<'_>]) -> bool
     ensures { result ≡ list_all has_test (map tests_of files.now) }
 {
     are_tested(files)
 }
 
-// Tells which files have no test.
-fn tell_untested<E: Write>(files: &[ReadFile<'_>], err: &mut E) {
+/// Tells which files have no test.
+pub(crate) fn tell_untested<E: Write>(files: &[ReadFile<'_>], err: &mut E) {
     for file in files {
         if !file.has_test() {
             let _ = writeln!(err, "no test in {}", file.name);
@@ -333,8 +325,8 @@ fn tell_line<E: Write>(alloc: Global, file: &NamedText<'_>, line: usize, err: &m
     };
 }
 
-// Tells where a line says nothing, if that is why files can't be read.
-fn tell_bad<E: Write>(
+/// Tells where a line says nothing, if that is why files can't be read.
+pub(crate) fn tell_bad<E: Write>(
     alloc: Global,
     files: &[NamedText<'_>],
     bad: BadFile,

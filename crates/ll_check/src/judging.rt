@@ -109,8 +109,8 @@ pub struct Reporter<'a> {
 }
 
 impl Reporter<'_> {
-    // What is shown of a test, if it is shown, is written at the end.
-    fn push_shown(
+    /// What is shown of a test, if it is shown, is written at the end.
+    pub(crate) fn push_shown(
         &self,
         out: &mut Vec<u8>,
         test: &Test,

@@ -23,6 +23,17 @@ fn calls_of(alloc: Global, tests: &[Test]) -> Result<Vec<ClientCall>, AllocError
     Ok(calls)
 }
 
+// The calls of the lessons.
+fn calls_of_lessons(alloc: Global, lessons: &[&Test]) -> Result<Vec<ClientCall>, AllocError>
+    ensures { IfOk result (λ calls. calls.items ≡ map (λ test. test.call) (map (λ t. t.now) lessons.now)) }
+{
+    let mut calls = Vec::with_capacity(alloc, lessons.len())?;
+    for lesson in lessons {
+        calls.push_reserved(lesson.call.copy(alloc)?);
+    }
+    Ok(calls)
+}
+
 /// Makes the calls of a file's tests in a tree of its own. The history of that is left.
 pub fn make<R: Wait>(
     rt: &R,
@@ -36,6 +47,23 @@ pub fn make<R: Wait>(
     ensures fault { IfErr result (λ fault. MayEnd setup fault) }
 {
     match calls_of(alloc, tests) {
+        Ok(calls) => run_calls(rt, alloc, setup, calls),
+        Err(_) => Err(RunFault::Session(SessionFault::NoMemory)),
+    }
+}
+
+/// Makes the calls of a file's lessons in a tree of its own. The history of that is left.
+pub(crate) fn make_lessons<R: Wait>(
+    rt: &R,
+    alloc: Global,
+    setup: Setup,
+    lessons: &[&Test],
+) -> Result<(CallReplies, History), RunFault>
+    ensures made { IfOk result (λ done.
+        Makes setup (map (λ test. test.call) (map (λ t. t.now) lessons.now)) done.0 done.1.entries) }
+    ensures fault { IfErr result (λ fault. MayEnd setup fault) }
+{
+    match calls_of_lessons(alloc, lessons) {
         Ok(calls) => run_calls(rt, alloc, setup, calls),
         Err(_) => Err(RunFault::Session(SessionFault::NoMemory)),
     }

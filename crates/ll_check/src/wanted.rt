@@ -8,6 +8,7 @@ ghost use Rattle.ll_wire.specs.FirstWords.{SpellsFirst};
 ghost use Rattle.ll_wire.specs.Grammar.{reply_tokens, IsReply};
 ghost use Rattle.ll_wire.specs.Reads.{Finds};
 ghost use Rattle.ll_check.specs.Wanted.{Satisfies, SpellsVerdict, SpellsWanted, is_allowed, is_success, wanted_text};
+ghost use Rattle.ll_check.specs.Wanted.{wants_denial};
 
 use crate::lines::{ended, strip_back, strip_front};
 use ll_decide::Place;
@@ -42,8 +43,8 @@ fn is_success(reply: &Reply) -> bool
     !matches!(reply, Reply::Refused(_) | Reply::Denied(_))
 }
 
-// Whether the tree has answered so, and no layer denies the call.
-fn is_allowed(reply: &Reply) -> bool
+/// Whether the tree has answered so, and no layer denies the call.
+pub(crate) fn is_allowed(reply: &Reply) -> bool
     ensures { result ≡ is_allowed reply.now }
 {
     match reply {
@@ -54,6 +55,18 @@ fn is_allowed(reply: &Reply) -> bool
 }
 
 impl Wanted {
+    /// Whether a denial is wanted, or what begins as one.
+    pub fn is_denial(&self) -> bool
+        ensures { result ≡ wants_denial self.now }
+    {
+        match self {
+            Wanted::Denied | Wanted::DeniedRight(_) | Wanted::DeniedAt(_, _) => true,
+            Wanted::Whole(reply) => matches!(reply, Reply::Denied(_)),
+            Wanted::First(words) => matches!(words, FirstWords::Denied(_)),
+            Wanted::Success | Wanted::Allowed => false,
+        }
+    }
+
     /// Whether the reply is as wanted.
     pub fn is_met(&self, reply: &Reply) -> bool
         ensures { IsTrue result ↔ Satisfies self.now reply.now }

@@ -1,4 +1,4 @@
-use Rattle.ll_options.specs.Options.{checked_in}
+use Rattle.ll_program.specs.Options.{checked_in}
 use Rattle.ll_check.proofs.Files.{bad_file, concluded}
 use Rattle.ll_check.proofs.checks.check.Goals as goal
 

@@ -1,5 +1,5 @@
 use Rattle.std.proofs.Common.{inl, inr, length}
-use Rattle.ll_options.specs.Options.{checked_in}
+use Rattle.ll_program.specs.Options.{checked_in}
 use Rattle.ll_check.proofs.Files.{file_checked}
 use Rattle.ll_check.proofs.checks.check_one.Goals as goal
 

@@ -1,0 +1,37 @@
+use Rattle.std.proofs.Common.{List, ℕ, map, subst, sym}
+use Rattle.ll_program.specs.Options.{learn_in}
+use Rattle.ll_check.specs.Files.{tests_of}
+use Rattle.ll_check.specs.Lessons.{IsProfile}
+use Rattle.ll_check.proofs.Taught.{cut_short, not_taught, written}
+use Rattle.ll_check.proofs.learning.learn_files.Goals as goal
+
+pub returns-in-Err-text_of : goal.returns-in-Err-text_of
+returns-in-Err-text_of g c =
+    not_taught (learn_in c.args.input.now.options.now) c.args.input.now.policy.now
+    (g.W.Write.contents c.args.out.now) c.args.input.now.files.now c.in-Ok-read_all.files.items
+    c.as_slice-2.result.now c.in-Ok-read_all.ensures.read c.as_slice-2.ensures.value c.in-Err-text_of.failure
+    c.in-Err-text_of.ensures.failure
+
+pub returns-in-Ok-write_whole : goal.returns-in-Ok-write_whole
+returns-in-Ok-write_whole g c =
+    let order = learn_in c.args.input.now.options.now in
+    let policy = c.args.input.now.policy.now in
+    let files = map tests_of c.as_slice-2.result.now in
+    let is = rw c.in-Ok-Some.field-0-is at c.in-Ok-Some.ensures.profile in
+    written order policy (g.W.Write.contents c.args.out.now) c.args.input.now.files.now
+    c.in-Ok-read_all.files.items c.as_slice-2.result.now c.in-Ok-read_all.ensures.read c.as_slice-2.ensures.value
+    c.as_str.result.now (g.W.Write.contents c.write_whole.new.writer)
+    (subst (λ (x : List ℕ). IsProfile order policy files x) (sym c.as_str.ensures.value) is)
+    c.in-Ok-write_whole.ensures.ok
+
+pub returns : goal.returns
+returns g c =
+    let order = learn_in c.args.input.now.options.now in
+    let policy = c.args.input.now.policy.now in
+    let files = map tests_of c.as_slice-2.result.now in
+    let is = rw c.in-Ok-Some.field-0-is at c.in-Ok-Some.ensures.profile in
+    cut_short order policy (g.W.Write.contents c.args.out.now) c.args.input.now.files.now
+    c.in-Ok-read_all.files.items c.as_slice-2.result.now c.in-Ok-read_all.ensures.read c.as_slice-2.ensures.value
+    c.as_str.result.now (g.W.Write.contents c.write_whole.new.writer)
+    (subst (λ (x : List ℕ). IsProfile order policy files x) (sym c.as_str.ensures.value) is)
+    c.in-Err-write_whole.ensures.err

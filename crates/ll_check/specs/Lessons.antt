@@ -1,0 +1,191 @@
+-- What is learned from files of checks, and what is written of it. own
+use Rattle.std.specs.Prelude.{◌≡◌, ◌⊎◌, ◌<◌, ◌≤◌, ◌-◌, ℕ, true, not, is_some, List, [], Option, Some, None, Result}
+use Rattle.std.specs.Prelude.{Ok, Err, codes, length, map, slice_get, if◌then◌else◌}
+use Rattle.std.specs.List.{AllByRecursion, AllZip, filter, list_all}
+use Rattle.std.specs.Option.{option_map_or}
+use Rattle.std.specs.declared.alloc.Global.{Global}
+use Rattle.std.specs.declared.vec.Vec.{Vec}
+use Rattle.ll_rights.specs.Access.{known_set}
+use Rattle.ll_rights.specs.declared.limits.TheConstants.{HISTORY_ENTRIES}
+use Rattle.ll_path.specs.Path.{path_of_text}
+use Rattle.ll_seq.specs.declared.call.Call.{Call}
+use Rattle.ll_seq.specs.declared.reply.Entry.{Entry}
+use Rattle.ll_seq.specs.declared.reply.Reply.{Reply}
+use Rattle.ll_audit.specs.Saved.{opened}
+use Rattle.ll_learn.specs.declared.fault.Unlearned.TheVariants.{NoNode}
+use Rattle.ll_learn.specs.declared.learned.Aim.{Aim}
+use Rattle.ll_learn.specs.declared.needs.Origin.{Origin}
+use Rattle.ll_learn.specs.declared.profile.LearnedProfile.{LearnedProfile}
+use Rattle.ll_learn.specs.Learned.{IsLearned, IsUnlearned}
+use Rattle.ll_learn.specs.Profile.{calls_of, profile_text}
+use Rattle.ll_wire.specs.Transcript.{Writes}
+use Rattle.ll_wire.specs.Writing.{AppendsFront}
+use Rattle.ll_session.specs.CallsRun.{Makes}
+use Rattle.ll_session.specs.Run.{MayEnd}
+use Rattle.ll_session.specs.declared.calls_run.CallReplies.{CallReplies}
+use Rattle.ll_session.specs.declared.calls_run.CallReplies.TheVariants.{Answered, Refused}
+use Rattle.ll_session.specs.declared.fault.RunFault.{RunFault}
+use Rattle.ll_session.specs.declared.setup.Setup.{Setup}
+use Rattle.ll_program.specs.Failure.{failure_of}
+use Rattle.ll_program.specs.Learn.{IsWithheld, most_rules, profile_name}
+use Rattle.ll_program.specs.Options.{LearnOrder, lesson_tree}
+use Rattle.ll_program.specs.Paths.{HasBadWord}
+use Rattle.ll_program.specs.Policy.{IsSetup, Lacks, header_of}
+use Rattle.ll_program.specs.declared.checked.Checked.{Checked}
+use Rattle.ll_program.specs.declared.checked.Checked.TheVariants.{BadLine, Failed, Passed}
+use Rattle.ll_program.specs.declared.failure.Failure.{Failure}
+use Rattle.ll_program.specs.declared.failure.Failure.TheVariants.{CommandLine, NoMemory, Output}
+use Rattle.ll_check.specs.declared.lessons.FileLessons.{FileLessons}
+use Rattle.ll_check.specs.declared.reading.Test.{Test}
+use Rattle.ll_check.specs.Files.{AreTestsOf, HasBadLine, Source, Tests, has_test, room_for}
+use Rattle.ll_check.specs.Report.{heading}
+use Rattle.ll_check.specs.Wanted.{Satisfies, is_allowed, wants_denial}
+
+-- ---- Trees
+
+-- the setup that the policy's file gives, where nobody gets a layer
+abbrev pub IsBlank : LearnOrder → (policy : List ℕ) → Setup → Type 0
+IsBlank order policy setup = IsSetup (lesson_tree order HISTORY_ENTRIES) policy setup
+
+-- the same with room for so many tests, before which their first client makes these calls
+pub record IsTree (order : LearnOrder) (policy : List ℕ) (calls : List Call) (tests : ℕ) (setup : Setup) : Type 0
+  where
+    pub blank : Setup
+    pub is : IsBlank order policy blank
+    pub rules : setup.rules ≡ blank.rules
+    pub nodes : setup.nodes ≡ blank.nodes
+    pub loader : setup.loader ≡ blank.loader
+    pub history : setup.history ≡ room_for setup tests
+    pub profile : setup.profile.items ≡ calls
+
+-- In such a tree the tests are made, which leaves these entries, and each gets a reply as it must be
+pub record AreMade (order : LearnOrder) (policy : List ℕ) (calls : List Call) (Must : Test → Reply → Type 0)
+    (tests : List Test) (entries : List Entry) : Type 0 where
+  pub setup : Setup
+  pub replies : Vec Reply Global
+  pub tree : IsTree order policy calls (length tests) setup
+  pub makes : Makes setup (map (λ test. test.call) tests) (Answered replies) entries
+  pub each : AllZip Must tests replies.items
+
+-- ---- Lessons
+
+-- the tests of a file that don't want a denial
+abbrev pub lessons_of : Tests → Tests
+lessons_of file =
+    record { name = file.name; tests = filter (λ test. not (wants_denial test.wanted)) file.tests }
+
+-- the reply is as wanted, and the call stands in the history
+abbrev pub IsLearnedFrom : Test → Reply → Type 0
+IsLearnedFrom test got = Satisfies test.wanted got × (is_allowed got ≡ true)
+
+-- a file's lessons are made where nobody has a layer
+abbrev pub AreTaught : LearnOrder → (policy : List ℕ) → (lessons : Tests) → List Entry → Type 0
+AreTaught order policy lessons entries = AreMade order policy [] IsLearnedFrom lessons.tests entries
+
+-- ---- The profile
+
+-- who makes the lessons: behind a loader the client of number 2
+abbrev pub learner : Setup → ℕ
+learner blank = if is_some blank.loader then 2 else 1
+
+-- what is learned, where the policy gives this setup: rules with any right of its level that isn't withheld
+pub record IsAim (order : LearnOrder) (blank : Setup) (aim : Aim) : Type 0 where
+  pub client : aim.client ≡ learner blank
+  pub handled : aim.handled.0 ≡ known_set blank.rules.abi
+  pub never : IsWithheld order.never (Some aim.never)
+  pub beneath : aim.beneath.now ≡ map path_of_text order.beneath
+
+-- what is learned from: the lessons of all files, each made in a tree of its own
+pub record Course (order : LearnOrder) (policy : List ℕ) (lessons : List Tests) : Type 0 where
+  pub blank : Setup
+  pub is : IsBlank order policy blank
+  pub histories : List (List Entry)
+  pub taught : AllZip (AreTaught order policy) lessons histories
+  pub aim : Aim
+  pub aims : IsAim order blank aim
+
+abbrev pub IsTaughtBy : LearnOrder → (policy : List ℕ) → (lessons : List Tests) → LearnedProfile → Type 0
+IsTaughtBy order policy lessons profile =
+    (c : Course order policy lessons) × IsLearned (opened (header_of c.blank)) c.histories c.aim profile
+
+-- all tests of a file pass where its first client has the profile's layer
+abbrev pub PassesUnder : LearnOrder → (policy : List ℕ) → LearnedProfile → Tests → Type 0
+PassesUnder order policy profile file = (entries : List Entry)
+    × AreMade order policy (calls_of profile) (λ test got. Satisfies test.wanted got) file.tests entries
+
+-- ---- What is written
+
+-- the line on the lesson whose call the entry is: where it stands, and its command
+abbrev pub lesson_note : (lessons : List Tests) → Origin → List ℕ
+lesson_note lessons origin = option_map_or
+    (λ (file : Tests). option_map_or (heading file.name) (slice_get file.tests (origin.entry - 1)) (codes "\n"))
+    (slice_get lessons origin.history) (codes "\n")
+
+-- a profile that is learned from the lessons of all files, and under which all their tests pass
+pub record IsProfile (order : LearnOrder) (policy : List ℕ) (files : List Tests) (written : List ℕ) : Type 0 where
+  pub tested : list_all has_test files ≡ true
+  pub profile : LearnedProfile
+  pub taught : IsTaughtBy order policy (map lessons_of files) profile
+  pub few : length profile.rules.items ≤ most_rules order
+  pub passes : AllByRecursion (PassesUnder order policy profile) files
+  pub name : List ℕ
+  pub named : profile_name order ≡ Some name
+  pub text : written ≡ profile_text (lesson_note (map lessons_of files)) name profile
+
+-- ---- How it ends
+
+-- the words tell no name of a profile, no rights, or no path
+abbrev pub HasWrongWord : LearnOrder → Type 0
+HasWrongWord order = (profile_name order ≡ None) ⊎ IsWithheld order.never None ⊎ HasBadWord order.beneath
+
+-- a path of the words names nothing, or there are more rules than the words allow
+abbrev pub IsOutside : LearnOrder → (policy : List ℕ) → (lessons : List Tests) → Type 0
+IsOutside order policy lessons =
+    ((c : Course order policy lessons) × (path : ℕ)
+    × IsUnlearned (opened (header_of c.blank)) c.histories c.aim (NoNode path))
+    ⊎ ((profile : LearnedProfile) × IsTaughtBy order policy lessons profile
+    × (most_rules order < length profile.rules.items))
+
+-- why the trees of files aren't opened, or tests not made there to the end
+abbrev pub FailsToMake : LearnOrder → (policy : List ℕ) → Failure → Type 0
+FailsToMake order policy failure =
+    ((is_some order.policy ≡ true) × Lacks (lesson_tree order HISTORY_ENTRIES) policy failure)
+    ⊎ ((calls : List Call) × (tests : ℕ) × (setup : Setup) × (fault : RunFault)
+    × IsTree order policy calls tests setup × MayEnd setup fault × (failure ≡ failure_of fault))
+    ⊎ (failure ≡ NoMemory)
+
+-- why nothing is learned from lessons
+abbrev pub FailsToLearn : LearnOrder → (policy : List ℕ) → (lessons : List Tests) → Failure → Type 0
+FailsToLearn order policy lessons failure =
+    ((failure ≡ CommandLine) × IsOutside order policy lessons) ⊎ FailsToMake order policy failure
+
+-- the same of these files, or a word is wrong
+abbrev pub IsReason : LearnOrder → (policy : List ℕ) → List Source → Failure → Type 0
+IsReason order policy sources failure =
+    ((failure ≡ CommandLine) × HasWrongWord order)
+    ⊎ ((files : List Tests) × AllZip AreTestsOf sources files
+    × FailsToLearn order policy (map lessons_of files) failure)
+    ⊎ (failure ≡ NoMemory)
+
+-- A profile is written. Else nothing is, or a beginning of it, where the output fails
+abbrev pub EndsLessons : LearnOrder → (policy : List ℕ) → List Source → (out out' : Option (List ℕ))
+    → Result Checked Failure → Type 0
+EndsLessons order policy sources out out' (Ok Passed) = (files : List Tests) × AllZip AreTestsOf sources files
+    × Writes out out' (IsProfile order policy files)
+EndsLessons order policy sources out out' (Ok Failed) = out' ≡ out
+EndsLessons order policy sources out out' (Ok BadLine) = HasBadLine sources × (out' ≡ out)
+EndsLessons order policy sources out out' (Err failure) =
+    (IsReason order policy sources failure × (out' ≡ out))
+    ⊎ ((failure ≡ Output) × (files : List Tests) × AllZip AreTestsOf sources files
+    × (text : List ℕ) × IsProfile order policy files text × AppendsFront out out' text)
+
+-- ---- Parts, which no public contract cites
+
+-- a file's lessons, as they are picked
+abbrev pub picked : FileLessons → Tests
+picked file = record { name = file.name.now; tests = map (λ t. t.now) file.tests.items }
+
+-- each lesson is answered, as it must be
+abbrev pub AreMet : List Test → CallReplies → Type 0
+AreMet tests (Answered replies) = AllZip IsLearnedFrom tests replies.items
+AreMet tests (Refused reply) = ⊥

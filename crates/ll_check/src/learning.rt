@@ -1,0 +1,279 @@
+//! What is learned from files of checks.
+
+ghost use Rattle.std.specs.Prelude.{◌≡◌, ◌≤◌, ◌<◌, ◌⊎◌, ℕ, true, false, Some, length, map, string_bytes, IfErr, IfOk};
+ghost use Rattle.std.specs.Prelude.{IfSome};
+ghost use Rattle.std.specs.List.{list_all};
+ghost use Rattle.ll_audit.specs.Saved.{opened};
+ghost use Rattle.ll_learn.specs.Learned.{IsLearned, IsUnlearned};
+ghost use Rattle.ll_learn.specs.declared.fault.Unlearned.TheVariants as faults;
+ghost use Rattle.ll_rights.specs.declared.limits.TheConstants.{TREE_NODES};
+ghost use Rattle.ll_path.specs.Path.{path_of_text};
+ghost use Rattle.ll_program.specs.Learn.{IsWithheld, most_rules, profile_name};
+ghost use Rattle.ll_program.specs.Options.{learn_in};
+ghost use Rattle.ll_check.specs.Files.{has_test, source_of, tests_of};
+ghost use Rattle.ll_check.specs.Lessons.{EndsLessons, FailsToLearn, HasWrongWord, IsProfile, IsTaughtBy, learner};
+ghost use Rattle.ll_check.specs.Lessons.{lessons_of, picked};
+
+use crate::checks::{NamedText, ReadFile, have_tests, read_all, tell_bad, tell_untested};
+use crate::denied::Notes;
+use crate::lessons::{FileLessons, LessonNotes, lessons_in};
+use crate::teaching::teach_all;
+use crate::trees::Trees;
+use crate::trial::pass_under;
+use crate::untaught::Taught;
+use ll_learn::{Aim, LearnedProfile, Unlearned, learn};
+use ll_path::Path;
+use ll_program::{Checked, Failure, LearnOptions, header_of, paths_of};
+use ll_rights::Access;
+use ll_rights::limits::RULESET_INODES;
+use ll_seq::{Entry, History};
+use ll_session::Setup;
+use ll_wire::{Header, write_whole};
+use std::alloc::Global;
+use std::io::Write;
+use std::sync::Wait;
+
+/// What is to be learned from: what the words ask for, the text of the policy that they name, and the files.
+#[derive(Clone, Copy)]
+pub struct LearnInput<'a, 'w> {
+    pub options: &'a LearnOptions<'w>,
+    pub policy: &'a [u8],
+    pub files: &'a [NamedText<'w>],
+}
+
+// What the words ask of the profile.
+#[derive(Drop)]
+struct Request<'a> {
+    name: &'a str,
+    most: usize,
+    never: Access,
+    beneath: Vec<Path>,
+}
+
+impl<'a> Request<'a> {
+    // What the words ask for.
+    fn of_options(alloc: Global, options: &LearnOptions<'a>) -> Result<Request<'a>, Failure>
+        ensures name { IfOk result (λ request. profile_name (learn_in options.now) ≡ Some request.name.now) }
+        ensures most { IfOk result (λ request. request.most ≡ most_rules (learn_in options.now)) }
+        ensures never { IfOk result (λ request. IsWithheld (learn_in options.now).never (Some request.never)) }
+        ensures beneath { IfOk result (λ request.
+            request.beneath.items ≡ map path_of_text (learn_in options.now).beneath) }
+        ensures failure { IfErr result (λ failure.
+            ((failure ≡ Failure.CommandLine) × HasWrongWord (learn_in options.now)) ⊎ (failure ≡ Failure.NoMemory)) }
+    {
+        let Some(name) = options.profile_name() else {
+            return Err(Failure::CommandLine);
+        };
+        let Some(never) = options.withheld() else {
+            return Err(Failure::CommandLine);
+        };
+        let beneath = match paths_of(alloc, options.beneath.as_slice()) {
+            Ok(beneath) => beneath,
+            Err(failure) => return Err(failure),
+        };
+        Ok(Request {
+            name,
+            most: options.most_rules(),
+            never,
+            beneath,
+        })
+    }
+}
+
+// Who makes the lessons.
+fn learner(blank: &Setup) -> u64
+    ensures { result ≡ learner blank.now }
+{
+    if blank.loader.is_some() { 2 } else { 1 }
+}
+
+// The entries of the histories.
+fn entries_of<'a>(alloc: Global, histories: &'a [History]) -> Result<Vec<&'a [Entry]>, Failure>
+    ensures entries { IfOk result (λ entries. map (λ es. es.now) entries.items
+        ≡ map (λ history. history.entries) histories.entry.now) }
+    ensures failure { IfErr result (λ failure. failure ≡ Failure.NoMemory) }
+{
+    let mut entries = Vec::new(alloc);
+    for history in histories {
+        if entries.push(history.entries()).is_err() {
+            return Err(Failure::NoMemory);
+        }
+    }
+    Ok(entries)
+}
+
+// What is learned from the histories of lessons. None where nothing is, which is told.
+fn learned_from<E: Write>(
+    alloc: Global,
+    header: &Header,
+    taught: &Taught<'_, '_>,
+    aim: &Aim,
+    err: &mut E,
+) -> Result<Option<LearnedProfile>, Failure>
+    requires some { 1 ≤ header.now.nodes }
+    requires most { header.now.nodes ≤ TREE_NODES }
+    ensures learned { IfOk result (λ found. IfSome found
+        (IsLearned (opened header.now) (map (λ h. h.now) taught.now.histories.now) aim.now)) }
+    ensures failure { IfErr result (λ failure. ((failure ≡ Failure.CommandLine) × (path : ℕ)
+        × IsUnlearned (opened header.now) (map (λ h. h.now) taught.now.histories.now) aim.now (faults.NoNode path))
+        ⊎ (failure ≡ Failure.NoMemory)) }
+{
+    match learn(alloc, header, taught.histories, aim) {
+        Ok(profile) => Ok(Some(profile)),
+        Err(Unlearned::NoMemory) => Err(Failure::NoMemory),
+        Err(Unlearned::NoNode(_)) => Err(Failure::CommandLine),
+        Err(fault) => {
+            taught.tell(alloc, fault, aim, err);
+            Ok(None)
+        }
+    }
+}
+
+// What all lessons teach. None where one isn't answered as it says, or nothing is learned, which is told.
+fn taught_by<R: Wait, E: Write>(
+    rt: &R,
+    trees: &Trees<'_, '_>,
+    request: &Request<'_>,
+    lessons: &[FileLessons<'_>],
+    err: &mut E,
+) -> Result<Option<LearnedProfile>, Failure>
+    requires never { IsWithheld (learn_in trees.now.options.now).never (Some request.now.never) }
+    requires beneath { request.now.beneath.items ≡ map path_of_text (learn_in trees.now.options.now).beneath }
+    ensures taught { IfOk result (λ found. IfSome found
+        (IsTaughtBy (learn_in trees.now.options.now) trees.now.policy.now (map picked lessons.now))) }
+    ensures failure { IfErr result
+        (FailsToLearn (learn_in trees.now.options.now) trees.now.policy.now (map picked lessons.now)) }
+{
+    let blank = match trees.blank() {
+        Ok(blank) => blank,
+        Err(failure) => return Err(failure),
+    };
+    let header = header_of(&blank);
+    let histories = match teach_all(rt, trees, lessons, err) {
+        Ok(Some(histories)) => histories,
+        Ok(None) => return Ok(None),
+        Err(failure) => return Err(failure),
+    };
+    let entries = match entries_of(trees.alloc, histories.as_slice()) {
+        Ok(entries) => entries,
+        Err(failure) => return Err(failure),
+    };
+    let taught = Taught {
+        lessons,
+        histories: entries.as_slice(),
+    };
+    let aim = Aim {
+        client: learner(&blank),
+        handled: Access::known(blank.rules.abi),
+        never: request.never,
+        beneath: request.beneath.as_slice(),
+    };
+    learned_from(trees.alloc, &header, &taught, &aim, err)
+}
+
+// Whether there are no more rules than may be. Tells where there are.
+fn are_few<E: Write>(request: &Request<'_>, profile: &LearnedProfile, err: &mut E) -> bool
+    ensures few { result ≡ true → length profile.now.rules.items ≤ request.now.most }
+    ensures many { result ≡ false → request.now.most < length profile.now.rules.items }
+{
+    let rules = profile.rules.len();
+    let most = request.most;
+    if rules <= most {
+        return true;
+    }
+    let _ = writeln!(
+        err,
+        "{rules} rules, {most} may be: --most {RULESET_INODES}, or --beneath DIR"
+    );
+    false
+}
+
+// The text of the profile that the files teach, and under which their tests pass. None where there is none, which is
+// told.
+fn text_of<R: Wait, E: Write, N: Notes>(
+    rt: &R,
+    trees: &Trees<'_, '_>,
+    request: &Request<'_>,
+    files: &[ReadFile<'_>],
+    err: &mut E,
+    notes: &mut N,
+) -> Result<Option<String>, Failure>
+    requires name { profile_name (learn_in trees.now.options.now) ≡ Some request.now.name.now }
+    requires most { request.now.most ≡ most_rules (learn_in trees.now.options.now) }
+    requires never { IsWithheld (learn_in trees.now.options.now).never (Some request.now.never) }
+    requires beneath { request.now.beneath.items ≡ map path_of_text (learn_in trees.now.options.now).beneath }
+    requires tested { list_all has_test (map tests_of files.now) ≡ true }
+    ensures profile { IfOk result (λ found. IfSome found (λ text. IsProfile (learn_in trees.now.options.now)
+        trees.now.policy.now (map tests_of files.now) (string_bytes text))) }
+    ensures failure { IfErr result (FailsToLearn (learn_in trees.now.options.now) trees.now.policy.now
+        (map lessons_of (map tests_of files.now))) }
+{
+    let lessons = match lessons_in(trees.alloc, files) {
+        Ok(lessons) => lessons,
+        Err(failure) => return Err(failure),
+    };
+    let profile = match taught_by(rt, trees, request, lessons.as_slice(), err) {
+        Ok(Some(profile)) => profile,
+        Ok(None) => return Ok(None),
+        Err(failure) => return Err(failure),
+    };
+    if !are_few(request, &profile, err) {
+        return Err(Failure::CommandLine);
+    }
+    match pass_under(rt, trees, &profile, files, err, notes) {
+        Ok(true) => {}
+        Ok(false) => return Ok(None),
+        Err(failure) => return Err(failure),
+    }
+    let lines = LessonNotes {
+        files: lessons.as_slice(),
+    };
+    match profile.text(trees.alloc, &lines, request.name) {
+        Ok(text) => Ok(Some(text)),
+        Err(_) => Err(Failure::NoMemory),
+    }
+}
+
+/// Learns one layer from the tests that want no denial, made where nobody has a layer, and writes it as a profile if
+/// all tests pass under it. All files are read before anything is run: where a line says nothing, that is told. What
+/// else keeps a profile from being written is told too: a file without a test, a test that isn't met, nothing that can
+/// be learned. Errors: a word is wrong, or a path of the words names nothing, or there are more rules than they allow;
+/// the policy's text gives no setup; a call of its loader is refused; `out` fails; memory ran out.
+pub fn learn_files<R: Wait, W: Write, E: Write, N: Notes>(
+    rt: &R,
+    alloc: Global,
+    input: &LearnInput<'_, '_>,
+    out: &mut W,
+    err: &mut E,
+    notes: &mut N,
+) -> Result<Checked, Failure>
+    ensures { EndsLessons (learn_in input.now.options.now) input.now.policy.now (map source_of input.now.files.now)
+        (W.contents out.old) (W.contents out.new) result }
+{
+    let request = match Request::of_options(alloc, input.options) {
+        Ok(request) => request,
+        Err(failure) => return Err(failure),
+    };
+    let files = match read_all(alloc, input.files) {
+        Ok(files) => files,
+        Err(bad) => return tell_bad(alloc, input.files, bad, err),
+    };
+    if !have_tests(files.as_slice()) {
+        tell_untested(files.as_slice(), err);
+        return Ok(Checked::Failed);
+    }
+    let trees = Trees {
+        alloc,
+        options: input.options,
+        policy: input.policy,
+    };
+    let text = match text_of(rt, &trees, &request, files.as_slice(), err, notes) {
+        Ok(Some(text)) => text,
+        Ok(None) => return Ok(Checked::Failed),
+        Err(failure) => return Err(failure),
+    };
+    match write_whole(out, text.as_str()) {
+        Ok(()) => Ok(Checked::Passed),
+        Err(_) => Err(Failure::Output),
+    }
+}

@@ -1,0 +1,156 @@
+//! Lessons, made.
+
+ghost use Rattle.std.specs.Prelude.{◌≡◌, ◌↔◌, true, map, IfErr, IfOk, IfSome, IsTrue};
+ghost use Rattle.std.specs.List.{AllZip};
+ghost use Rattle.ll_program.specs.Options.{learn_in};
+ghost use Rattle.ll_check.specs.Lessons.{AreMet, AreTaught, FailsToMake, IsLearnedFrom, picked};
+
+use crate::judging::{Detail, Reporter};
+use crate::lessons::FileLessons;
+use crate::reading::Test;
+use crate::refusing::push_refusal;
+use crate::running::make_lessons;
+use crate::trees::Trees;
+use crate::wanted::is_allowed;
+use ll_program::Failure;
+use ll_seq::{History, Reply};
+use ll_session::CallReplies;
+use std::io::Write;
+use std::sync::Wait;
+
+// Whether the reply is as the lesson wants it, and the call stands in the history.
+fn is_learned_from(lesson: &Test, reply: &Reply) -> bool
+    ensures { IsTrue result ↔ IsLearnedFrom lesson.now reply.now }
+{
+    lesson.wanted.is_met(reply) && is_allowed(reply)
+}
+
+// Tells of a lesson that isn't answered as it says.
+fn tell_unmet<E: Write>(reporter: &Reporter<'_>, lesson: &Test, reply: &Reply, err: &mut E) {
+    let mut report = Vec::new(reporter.alloc);
+    if reporter
+        .push_shown(&mut report, lesson, false, reply)
+        .is_ok()
+    {
+        let _ = err.write_all(report.as_slice());
+    }
+}
+
+// Tells that a file's tree isn't opened.
+fn tell_refusal<E: Write>(reporter: &Reporter<'_>, history: &History, reply: &Reply, err: &mut E) {
+    let mut report = Vec::new(reporter.alloc);
+    if push_refusal(
+        &mut report,
+        reporter.alloc,
+        reporter.file,
+        history.entries(),
+        reply,
+    )
+    .is_ok()
+    {
+        let _ = err.write_all(report.as_slice());
+    }
+}
+
+// Whether each reply is as its lesson wants it. Tells of the first that isn't.
+fn are_met<E: Write>(
+    reporter: &Reporter<'_>,
+    lessons: &[&Test],
+    replies: &[Reply],
+    err: &mut E,
+) -> bool
+    ensures { result ≡ true → AllZip IsLearnedFrom (map (λ t. t.now) lessons.now) replies.now }
+{
+    if lessons.len() != replies.len() {
+        return false;
+    }
+    for i in 0..lessons.len() {
+        let lesson = lessons[i];
+        let reply = &replies[i];
+        if !is_learned_from(lesson, reply) {
+            tell_unmet(reporter, lesson, reply, err);
+            return false;
+        }
+    }
+    true
+}
+
+// The same of lessons that were made so. Tells where they weren't.
+fn are_answered<E: Write>(
+    reporter: &Reporter<'_>,
+    lessons: &[&Test],
+    made: &CallReplies,
+    history: &History,
+    err: &mut E,
+) -> bool
+    ensures { result ≡ true → AreMet (map (λ t. t.now) lessons.now) made.now }
+{
+    match made {
+        CallReplies::Answered(replies) => are_met(reporter, lessons, replies.as_slice(), err),
+        CallReplies::Refused(reply) => {
+            tell_refusal(reporter, history, reply, err);
+            false
+        }
+    }
+}
+
+// The history of a file's lessons, which are made in a tree of its own. None where one isn't answered as it says, which
+// is told.
+fn teach<R: Wait, E: Write>(
+    rt: &R,
+    trees: &Trees<'_, '_>,
+    file: &FileLessons<'_>,
+    err: &mut E,
+) -> Result<Option<History>, Failure>
+    ensures taught { IfOk result (λ found. IfSome found (λ history.
+        AreTaught (learn_in trees.now.options.now) trees.now.policy.now (picked file.now) history.entries)) }
+    ensures failure { IfErr result (FailsToMake (learn_in trees.now.options.now) trees.now.policy.now) }
+{
+    let lessons = file.tests.as_slice();
+    let setup = match trees.tree(Vec::new(trees.alloc), lessons.len()) {
+        Ok(setup) => setup,
+        Err(failure) => return Err(failure),
+    };
+    let (made, history) = match make_lessons(rt, trees.alloc, setup, lessons) {
+        Ok(done) => done,
+        Err(fault) => return Err(Failure::of_run(fault)),
+    };
+    let reporter = Reporter {
+        alloc: trees.alloc,
+        detail: Detail::Usual,
+        file: file.name.as_bytes(),
+    };
+    if are_answered(&reporter, lessons, &made, &history, err) {
+        Ok(Some(history))
+    } else {
+        Ok(None)
+    }
+}
+
+/// Returns the histories of all files' lessons, each of a tree of its own. None where a lesson isn't answered as it
+/// says, which is told.
+pub(crate) fn teach_all<R: Wait, E: Write>(
+    rt: &R,
+    trees: &Trees<'_, '_>,
+    files: &[FileLessons<'_>],
+    err: &mut E,
+) -> Result<Option<Vec<History>>, Failure>
+    ensures taught { IfOk result (λ found. IfSome found (λ histories.
+        AllZip (AreTaught (learn_in trees.now.options.now) trees.now.policy.now)
+        (map picked files.now) (map (λ history. history.entries) histories.items))) }
+    ensures failure { IfErr result (FailsToMake (learn_in trees.now.options.now) trees.now.policy.now) }
+{
+    let mut histories = Vec::new(trees.alloc);
+    for file in files {
+        let history = match teach(rt, trees, file, err) {
+            Ok(Some(history)) => history,
+            Ok(None) => return Ok(None),
+            Err(failure) => return Err(failure),
+        };
+        if let Err(refused) = histories.push(history) {
+            drop(refused);
+            return Err(Failure::NoMemory);
+        }
+    }
+    Ok(Some(histories))
+}

@@ -1,0 +1,58 @@
+//! The trees in which lessons are made, and profiles tried.
+
+ghost use Rattle.std.specs.Prelude.{◌≡◌, IfErr, IfOk};
+ghost use Rattle.ll_session.specs.Session.{AreOthers};
+ghost use Rattle.ll_program.specs.Options.{learn_in};
+ghost use Rattle.ll_check.specs.Lessons.{FailsToMake, IsBlank, IsTree};
+
+use crate::checks::with_room;
+use ll_program::{Failure, LearnOptions, setup_of};
+use ll_seq::Call;
+use ll_session::Setup;
+use std::alloc::Global;
+
+/// What the trees are set up by: the options of `learn`, and the text of the policy that they name.
+#[derive(Clone, Copy)]
+pub(crate) struct Trees<'a, 'w> {
+    pub alloc: Global,
+    pub options: &'a LearnOptions<'w>,
+    pub policy: &'a [u8],
+}
+
+// The setup whose first client makes these calls.
+fn with_profile(mut setup: Setup, profile: Vec<Call>) -> Setup
+    requires { AreOthers profile.items }
+    ensures rules { result.rules ≡ setup.rules }
+    ensures nodes { result.nodes ≡ setup.nodes }
+    ensures loader { result.loader ≡ setup.loader }
+    ensures profile { result.profile ≡ profile }
+{
+    setup.profile = profile;
+    setup
+}
+
+impl Trees<'_, '_> {
+    /// Returns the setup that the policy gives, where nobody gets a layer.
+    pub fn blank(&self) -> Result<Setup, Failure>
+        ensures setup { IfOk result (IsBlank (learn_in self.now.options.now) self.now.policy.now) }
+        ensures failure { IfErr result (FailsToMake (learn_in self.now.options.now) self.now.policy.now) }
+    {
+        let mut text = self.policy;
+        match setup_of(self.alloc, &self.options.tree(), &mut text) {
+            Ok(setup) => Ok(setup),
+            Err(failure) => Err(failure),
+        }
+    }
+
+    /// Returns the setup of a tree with room for so many tests, before which the first client makes these calls.
+    pub fn tree(&self, profile: Vec<Call>, tests: usize) -> Result<Setup, Failure>
+        requires { AreOthers profile.items }
+        ensures setup { IfOk result (IsTree (learn_in self.now.options.now) self.now.policy.now profile.items tests) }
+        ensures failure { IfErr result (FailsToMake (learn_in self.now.options.now) self.now.policy.now) }
+    {
+        match self.blank() {
+            Ok(setup) => Ok(with_room(with_profile(setup, profile), tests)),
+            Err(failure) => Err(failure),
+        }
+    }
+}

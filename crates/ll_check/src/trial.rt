@@ -1,0 +1,79 @@
+//! A profile, tried: all tests of files, made under it.
+
+ghost use Rattle.std.specs.Prelude.{◌≡◌, true, map, IfErr, IfOk};
+ghost use Rattle.std.specs.List.{AllByRecursion};
+ghost use Rattle.ll_program.specs.Options.{learn_in};
+ghost use Rattle.ll_check.specs.Files.{tests_of};
+ghost use Rattle.ll_check.specs.Lessons.{FailsToMake, PassesUnder};
+
+use crate::checking::check_file;
+use crate::checks::ReadFile;
+use crate::denied::{Notes, tell_denied};
+use crate::judging::{Detail, Reporter};
+use crate::trees::Trees;
+use ll_learn::LearnedProfile;
+use ll_program::{Failure, header_of};
+use std::io::Write;
+use std::sync::Wait;
+
+// Whether all tests of a file pass where its first client has the profile's layer. Tells of those that don't.
+fn passes_under<R: Wait, E: Write, N: Notes>(
+    rt: &R,
+    trees: &Trees<'_, '_>,
+    profile: &LearnedProfile,
+    file: &ReadFile<'_>,
+    err: &mut E,
+    notes: &mut N,
+) -> Result<bool, Failure>
+    ensures passes { IfOk result (λ passes. passes ≡ true → PassesUnder (learn_in trees.now.options.now)
+        trees.now.policy.now profile.now (tests_of file.now)) }
+    ensures failure { IfErr result (FailsToMake (learn_in trees.now.options.now) trees.now.policy.now) }
+{
+    let tests = file.checks.tests.as_slice();
+    let Ok(calls) = profile.calls(trees.alloc) else {
+        return Err(Failure::NoMemory);
+    };
+    let setup = match trees.tree(calls, tests.len()) {
+        Ok(setup) => setup,
+        Err(failure) => return Err(failure),
+    };
+    let header = header_of(&setup);
+    let reporter = Reporter {
+        alloc: trees.alloc,
+        detail: Detail::Usual,
+        file: file.name.as_bytes(),
+    };
+    let mut report = Vec::new(trees.alloc);
+    let checked = match check_file(rt, &mut report, &reporter, setup, tests) {
+        Ok(checked) => checked,
+        Err(fault) => return Err(Failure::of_run(fault)),
+    };
+    let _ = err.write_all(report.as_slice());
+    if notes.are_wanted() {
+        tell_denied(notes, &reporter, &header, tests, &checked);
+    }
+    Ok(checked.tally.failed == 0)
+}
+
+/// Reports whether all tests of all files pass so. Tells of those that don't.
+pub(crate) fn pass_under<R: Wait, E: Write, N: Notes>(
+    rt: &R,
+    trees: &Trees<'_, '_>,
+    profile: &LearnedProfile,
+    files: &[ReadFile<'_>],
+    err: &mut E,
+    notes: &mut N,
+) -> Result<bool, Failure>
+    ensures passes { IfOk result (λ pass. pass ≡ true → AllByRecursion (PassesUnder (learn_in trees.now.options.now)
+        trees.now.policy.now profile.now) (map tests_of files.now)) }
+    ensures failure { IfErr result (FailsToMake (learn_in trees.now.options.now) trees.now.policy.now) }
+{
+    let mut pass = true;
+    for file in files {
+        match passes_under(rt, trees, profile, file, err, notes) {
+            Ok(passes) => pass = pass && passes,
+            Err(failure) => return Err(failure),
+        }
+    }
+    Ok(pass)
+}
