@@ -4,17 +4,17 @@ use Rattle.std.specs.Prelude.{IfErr, OnErr, false, refl, true}
 use Rattle.std.specs.Borrow.{Bor}
 use Rattle.std.specs.Io.KnownBytes.{Appends}
 use Rattle.std.proofs.Common.{ap, inl, inr, subst, sym, ◌∙◌}
-use Rattle.ll_options.specs.Options.{RunOrder, ServeOrder, order_in, served_in}
-use Rattle.ll_options.specs.declared.options.RunOptions.{RunOptions}
-use Rattle.ll_options.specs.declared.serve.ServeOptions.{ServeOptions}
-use Rattle.ll_runs.specs.Failure.{IsOfSaving}
-use Rattle.ll_runs.specs.Policy.{IsSaved, IsSetup, Lacks, header_of}
-use Rattle.ll_runs.specs.declared.failure.Failure.{Failure}
+use Rattle.ll_program.specs.Options.{ServeOrder, TreeOrder, served_in, served_tree, tree_in}
+use Rattle.ll_program.specs.declared.tree.TreeOptions.{TreeOptions}
+use Rattle.ll_program.specs.declared.serve.ServeOptions.{ServeOptions}
+use Rattle.ll_program.specs.Failure.{IsOfSaving}
+use Rattle.ll_program.specs.Policy.{IsSaved, IsSetup, Lacks, header_of}
+use Rattle.ll_program.specs.declared.failure.Failure.{Failure}
 use Rattle.ll_audit.specs.Saved.{saved_text}
 use Rattle.ll_seq.specs.declared.reply.Entry.{Entry}
 use Rattle.ll_session.specs.declared.setup.Setup.{Setup}
 use Rattle.ll_wire.specs.declared.header.Header.{Header}
-use Rattle.ll_commands.specs.Serving.{IsDone, IsServed, MayFail, MayStop, listening, run_of}
+use Rattle.ll_commands.specs.Serving.{IsDone, IsServed, MayFail, MayStop, listening}
 
 -- ---- the names of files
 
@@ -41,7 +41,7 @@ is_saved setup entries (Some name) blank file file' h some is saved =
 
 -- ---- by the options, and the text that the policy's file tells
 
-module _ (options : ServeOptions) (run : RunOptions) (is : order_in run ≡ run_of (served_in options))
+module _ (options : ServeOptions) (run : TreeOptions) (is : tree_in run ≡ served_tree (served_in options))
     (policy : Option (List ℕ)) where
   abbrev Told : (List ℕ → Type 0) → Type 0
   Told Holds = (text : List ℕ) × IfSome policy (λ told. text ≡ told) × Holds text
@@ -50,24 +50,24 @@ module _ (options : ServeOptions) (run : RunOptions) (is : order_in run ≡ run_
   order = served_in options
 
   pub unset : (out file : Option (List ℕ)) (failure : Failure) → is_some run.policy ≡ true
-      → Told (λ text. Lacks (order_in run) text failure)
+      → Told (λ text. Lacks (tree_in run) text failure)
       → Told (λ text. MayFail order text out out file file failure)
   unset out file failure some lacks =
       let policy_is : is_some order.policy ≡ true =
-      sym (ap (λ (o : RunOrder). is_some o.policy) is) ∙ named run.policy ∙ some in (
+      sym (ap (λ (o : TreeOrder). is_some o.policy) is) ∙ named run.policy ∙ some in (
         lacks.0,
         lacks.1,
         inl (
           policy_is,
-          subst (λ (o : RunOrder). Lacks o lacks.0 failure) is lacks.2,
+          subst (λ (o : TreeOrder). Lacks o lacks.0 failure) is lacks.2,
           refl,
           refl,
         ),
       )
 
-  module _ (setup : Setup) (set : Told (λ text. IsSetup (order_in run) text setup)) where
-    is_set : IsSetup (run_of order) set.0 setup
-    is_set = subst (λ (o : RunOrder). IsSetup o set.0 setup) is set.2
+  module _ (setup : Setup) (set : Told (λ text. IsSetup (tree_in run) text setup)) where
+    is_set : IsSetup (served_tree order) set.0 setup
+    is_set = subst (λ (o : TreeOrder). IsSetup o set.0 setup) is set.2
 
     pub unserved : (out out' file file' : Option (List ℕ)) (failure : Failure)
         → MayStop setup options.port out out' failure → file' ≡ file

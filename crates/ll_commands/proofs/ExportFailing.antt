@@ -1,11 +1,11 @@
 -- Why nothing is written.
 use Rattle.std.specs.Prelude.{◌≡◌, ◌⊎◌, ℕ, List, [], Option, Some, None, IfSome, false, refl}
 use Rattle.std.proofs.Common.{sym, subst, inl, inr, ◌∙◌}
-use Rattle.ll_options.specs.Options.{ExportOrder, RunOrder, fits_export}
+use Rattle.ll_program.specs.Options.{ExportOrder, TreeOrder, fits_export}
 use Rattle.ll_policy.specs.declared.fault.PolicyFault.{PolicyFault}
-use Rattle.ll_runs.specs.declared.failure.Failure.{Failure}
-use Rattle.ll_runs.specs.declared.failure.Failure.TheVariants.{CommandLine, File, NoMemory, Policy}
-use Rattle.ll_runs.specs.Policy.{Lacks}
+use Rattle.ll_program.specs.declared.failure.Failure.{Failure}
+use Rattle.ll_program.specs.declared.failure.Failure.TheVariants.{CommandLine, File, NoMemory, Policy}
+use Rattle.ll_program.specs.Policy.{Lacks}
 use Rattle.ll_commands.specs.declared.confinement.Confinement.{Confinement}
 use Rattle.ll_commands.specs.Confinement.{is_enforceable}
 use Rattle.ll_commands.specs.Export.{IsOfPolicy, MayFail}
@@ -28,7 +28,7 @@ module _ (order : ExportOrder) (text : List ℕ) where
   by_reading f (inl e) = subst (MayFail order text) (sym e) tt
   by_reading f (inr e) = subst (MayFail order text) (sym e) tt
 
-  pub by_policy : (f : Failure) → ((run : RunOrder) → Lacks run text f)
+  pub by_policy : (f : Failure) → ((tree : TreeOrder) → Lacks tree text f)
       → (f ≡ NoMemory) ⊎ ((fault : PolicyFault) × (f ≡ Policy fault)) → MayFail order text f
   by_policy f lacks (inl e) = subst (MayFail order text) (sym e) tt
   by_policy f lacks (inr (fault, e)) =

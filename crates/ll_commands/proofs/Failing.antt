@@ -2,17 +2,17 @@
 use Rattle.std.specs.Prelude.{◌≡◌, ◌⊎◌, ℕ, List, Option, Some, None, refl}
 use Rattle.std.proofs.Common.{inl, inr}
 use Rattle.ll_seq.specs.declared.call.Call.{Call}
-use Rattle.ll_options.specs.Options.{Asked, RunOrder, of_command, of_entry}
-use Rattle.ll_runs.specs.Policy.{IsSetup}
-use Rattle.ll_runs.specs.declared.failure.Failure.{Failure}
-use Rattle.ll_runs.specs.declared.failure.Failure.TheVariants.{CommandLine, Policy, Opening, File, Output, Socket}
-use Rattle.ll_runs.specs.declared.failure.Failure.TheVariants.{NoMemory}
+use Rattle.ll_program.specs.Options.{Asked, TreeOrder, of_command, of_entry}
+use Rattle.ll_program.specs.Policy.{IsSetup}
+use Rattle.ll_program.specs.declared.failure.Failure.{Failure}
+use Rattle.ll_program.specs.declared.failure.Failure.TheVariants.{CommandLine, Policy, Opening, File, Output, Socket}
+use Rattle.ll_program.specs.declared.failure.Failure.TheVariants.{NoMemory}
 use Rattle.ll_session.specs.declared.setup.Setup.{Setup}
 use Rattle.ll_commands.specs.Opening.{FailsSo, IsStopped}
 use Rattle.ll_commands.specs.Why.{Answers, CommandFails, EntryFails, Fails, IsCommand}
 use Rattle.ll_commands.specs.declared.why.Answer.{Answer}
 
-module _ (run : RunOrder) (word file : List ℕ) where
+module _ (run : TreeOrder) (word file : List ℕ) where
   pub by_word : (f : Failure) → (f ≡ CommandLine) ⊎ (f ≡ NoMemory)
       → (f ≡ CommandLine → (call : Call) → IsCommand word call → ⊥) → CommandFails run word file f
   by_word CommandLine is none = inl (none refl)

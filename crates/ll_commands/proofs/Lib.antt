@@ -4,6 +4,7 @@ pub mod Failing
 pub mod First
 pub mod Growing
 pub mod Hosted
+pub mod Lessons
 pub mod Loadings
 pub mod Numbers
 pub mod Rows

@@ -1,18 +1,18 @@
 -- Rows of the table, and why there is none.
 use Rattle.std.specs.Prelude.{◌≡◌, ℕ, Bool, List, [], ◌∷◌, ◌++◌, map, length, Option, Some, None, IfSome, refl}
-use Rattle.std.specs.Borrow.{Bor}
 use Rattle.std.proofs.Common.{ap, arith, sym, subst, ◌∙◌, append_assoc, inl, inr}
 use Rattle.ll_path.specs.Path.{Path, path_of_text}
 use Rattle.ll_rules.specs.Layer.{Layer}
 use Rattle.ll_seq.specs.State.{State}
-use Rattle.ll_options.specs.Options.{RightsOrder}
-use Rattle.ll_runs.specs.Policy.{IsSetup, Lacks}
-use Rattle.ll_runs.specs.declared.failure.Failure.{Failure}
-use Rattle.ll_runs.specs.declared.failure.Failure.TheVariants.{CommandLine, Policy, Opening, File, Output, Socket}
-use Rattle.ll_runs.specs.declared.failure.Failure.TheVariants.{NoMemory}
+use Rattle.ll_program.specs.Options.{RightsOrder}
+use Rattle.ll_program.specs.Paths.{HasBadWord, IsOfWords}
+use Rattle.ll_program.specs.Policy.{IsSetup, Lacks}
+use Rattle.ll_program.specs.declared.failure.Failure.{Failure}
+use Rattle.ll_program.specs.declared.failure.Failure.TheVariants.{CommandLine, Policy, Opening, File, Output, Socket}
+use Rattle.ll_program.specs.declared.failure.Failure.TheVariants.{NoMemory}
 use Rattle.ll_session.specs.declared.setup.Setup.{Setup}
 use Rattle.ll_commands.specs.Opening.{FailsSo, IsStopped}
-use Rattle.ll_commands.specs.Rights.{AreRows, HasBadWord, IsOfWords, LacksTable, paths_told, run_of}
+use Rattle.ll_commands.specs.Rights.{AreRows, LacksTable, paths_told, table_tree}
 use Rattle.ll_commands.specs.Table.{row_line}
 
 pub fails_so : (P Q : Type 0) (f : Failure) → (P → Q) → FailsSo P f → FailsSo Q f
@@ -40,12 +40,6 @@ pub no_words : (words : List (List ℕ)) → [] ≡ map path_of_text words → w
 no_words [] e = refl
 no_words (w ∷ ws) e = absurd (cc e)
 
-pub map_more : (words : List (Bor (List ℕ))) (word : Bor (List ℕ))
-    → map path_of_text (map (λ w. w.now) (words ++ word ∷ []))
-    ≡ map path_of_text (map (λ w. w.now) words) ++ path_of_text word.now ∷ []
-map_more [] word = refl
-map_more (w ∷ words) word = ap (λ l. path_of_text w.now ∷ l) (map_more words word)
-
 -- what a reader has left, if it tells it
 pub left : (o : Option (List ℕ)) → (text : List ℕ) × IfSome o (λ told. text ≡ told)
 left None = ([], tt)
@@ -61,7 +55,7 @@ module _ (order : RightsOrder) (text : List ℕ) where
   by_words Socket is bad = absurd is
   by_words NoMemory is bad = tt
 
-  pub by_setup : (f : Failure) → Lacks (run_of order) text f → LacksTable order text f
+  pub by_setup : (f : Failure) → Lacks (table_tree order) text f → LacksTable order text f
   by_setup CommandLine lacks = inr lacks
   by_setup (Policy fault) lacks = lacks
   by_setup Opening lacks = absurd lacks
@@ -70,7 +64,7 @@ module _ (order : RightsOrder) (text : List ℕ) where
   by_setup Socket lacks = absurd lacks
   by_setup NoMemory lacks = tt
 
-  pub by_opening : (setup : Setup) (f : Failure) → IsSetup (run_of order) text setup → FailsSo (IsStopped setup) f
+  pub by_opening : (setup : Setup) (f : Failure) → IsSetup (table_tree order) text setup → FailsSo (IsStopped setup) f
       → LacksTable order text f
   by_opening setup CommandLine is fails = absurd fails
   by_opening setup (Policy fault) is fails = absurd fails

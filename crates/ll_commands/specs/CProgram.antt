@@ -7,13 +7,13 @@ use Rattle.ll_rights.specs.Access.{access_text}
 use Rattle.ll_rights.specs.declared.kind.Kind.{Kind}
 use Rattle.ll_rights.specs.declared.kind.Kind.TheVariants.{Reg, Dir, Sym, Fifo, Sock, Char, Block}
 use Rattle.ll_seq.specs.declared.call.Call.{Call}
-use Rattle.ll_options.specs.declared.denied.Denied.{Denied}
-use Rattle.ll_options.specs.Options.{ExportOrder, nothing_denied}
+use Rattle.ll_program.specs.declared.denied.Denied.{Denied}
+use Rattle.ll_program.specs.Options.{ExportOrder, nothing_denied}
 use Rattle.ll_policy.specs.declared.profile.Rule.{Rule}
 use Rattle.ll_policy.specs.declared.profile.Layer.{Layer}
 use Rattle.ll_commands.specs.declared.confinement.Confinement.{Confinement}
-use Rattle.ll_commands.specs.declared.fixed.TheConstants.{HEAD, HELPERS, TAIL}
 use Rattle.ll_commands.specs.Confinement.{kind_at}
+use Rattle.ll_commands.specs.Fixed.{c_head, c_helpers, c_tail, restrict_self}
 
 -- a printed character of ASCII that isn't a quotation mark, a question mark or a backslash (34, 63, 92)
 abbrev pub is_plain : ℕ → Bool
@@ -97,15 +97,8 @@ c_rows rows = concat (
     codes "/* The profile's layers, oldest first. */\nstatic const struct row rows[] = {\n" ∷ rows
     ∷ codes "    {END, 0, \"\", \"\"},\n};\n\n" ∷ [])
 
--- the call that enforces a layer: without it the program would run unconfined
-unfoldable pub restrict_self : List ℕ
-restrict_self = concat (
-    codes "/* Enforces a layer. */\nstatic void restrict_self(int ruleset)\n{\n"
-    ∷ codes "    if (syscall(RESTRICT_SELF, ruleset, 0))\n        fail(\"can't enforce\", \"a layer\");\n"
-    ∷ codes "    close(ruleset);\n}\n\n" ∷ [])
-
 -- the layers, oldest first. What is the same for all layers stands around both
 unfoldable pub c_text : ExportOrder → Confinement → List ℕ
 c_text order c = concat (
-    HEAD.now ∷ c_place order ∷ c_rows (flat_map (c_layer c.opening.now) c.layers.now)
-    ∷ HELPERS.now ∷ restrict_self ∷ TAIL.now ∷ [])
+    c_head ∷ c_place order ∷ c_rows (flat_map (c_layer c.opening.now) c.layers.now)
+    ∷ c_helpers ∷ restrict_self ∷ c_tail ∷ [])

@@ -2,21 +2,21 @@
 use Rattle.std.specs.Prelude.{◌≡◌, ◌⊎◌, ⊤, ℕ, true, false, List, [], Some, None}
 use Rattle.std.specs.Str.{IsUtf8}
 use Rattle.toml.specs.Parse.{parse_document}
-use Rattle.ll_options.specs.declared.export.Form.{Form}
-use Rattle.ll_options.specs.declared.export.Form.TheVariants.{C, Json}
-use Rattle.ll_options.specs.Options.{ExportOrder, RunOrder, fits_export}
+use Rattle.ll_program.specs.declared.export.Form.{Form}
+use Rattle.ll_program.specs.declared.export.Form.TheVariants.{C, Json}
+use Rattle.ll_program.specs.Options.{ExportOrder, TreeOrder, fits_export}
 use Rattle.ll_policy.specs.Faults.{document_faults}
 use Rattle.ll_policy.specs.KeptCalls.{calls_of_layers}
 use Rattle.ll_policy.specs.Plan.{Plan, IsPlanOf}
-use Rattle.ll_runs.specs.declared.failure.Failure.{Failure}
-use Rattle.ll_runs.specs.declared.failure.Failure.TheVariants.{CommandLine, Policy, Opening, File, Output, Socket}
-use Rattle.ll_runs.specs.declared.failure.Failure.TheVariants.{NoMemory}
-use Rattle.ll_runs.specs.declared.checked.Checked.{Checked}
-use Rattle.ll_runs.specs.declared.checked.Checked.TheVariants as checked
-use Rattle.ll_runs.specs.declared.conclusion.Conclusion.{Conclusion}
-use Rattle.ll_runs.specs.declared.conclusion.Conclusion.TheVariants.{Done}
-use Rattle.ll_runs.specs.declared.conclusion.Conclusion.TheVariants as conclusion
-use Rattle.ll_runs.specs.Policy.{Lacks, profile_of}
+use Rattle.ll_program.specs.declared.failure.Failure.{Failure}
+use Rattle.ll_program.specs.declared.failure.Failure.TheVariants.{CommandLine, Policy, Opening, File, Output, Socket}
+use Rattle.ll_program.specs.declared.failure.Failure.TheVariants.{NoMemory}
+use Rattle.ll_program.specs.declared.checked.Checked.{Checked}
+use Rattle.ll_program.specs.declared.checked.Checked.TheVariants as checked
+use Rattle.ll_program.specs.declared.conclusion.Conclusion.{Conclusion}
+use Rattle.ll_program.specs.declared.conclusion.Conclusion.TheVariants.{Done}
+use Rattle.ll_program.specs.declared.conclusion.Conclusion.TheVariants as conclusion
+use Rattle.ll_program.specs.Policy.{Lacks, profile_of}
 use Rattle.ll_commands.specs.declared.confinement.Confinement.{Confinement}
 use Rattle.ll_commands.specs.Confinement.{is_enforceable}
 use Rattle.ll_commands.specs.Json.{json_text}
@@ -52,7 +52,7 @@ MayFail order text CommandLine =
     (fits_export order ≡ false)
     ⊎ ((plan : Plan) × IsPlanOf (parse_document text) plan × (profile_of (Some order.profile) plan ≡ None))
     ⊎ ((c : Confinement) × IsOfPolicy order.profile text c × (is_enforceable c ≡ false))
-MayFail order text (Policy fault) = (run : RunOrder) → Lacks run text (Policy fault)
+MayFail order text (Policy fault) = (tree : TreeOrder) → Lacks tree text (Policy fault)
 MayFail order text Opening = ⊥
 MayFail order text File = ⊤
 MayFail order text Output = ⊤

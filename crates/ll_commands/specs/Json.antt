@@ -7,8 +7,8 @@ use Rattle.ll_rights.specs.Access.{set_names}
 use Rattle.ll_rights.specs.Kind.{kind_text}
 use Rattle.ll_rights.specs.declared.kind.Kind.{Kind}
 use Rattle.ll_seq.specs.declared.call.Call.{Call}
-use Rattle.ll_options.specs.declared.denied.Denied.{Denied}
-use Rattle.ll_options.specs.Options.{ExportOrder, nothing_denied}
+use Rattle.ll_program.specs.declared.denied.Denied.{Denied}
+use Rattle.ll_program.specs.Options.{ExportOrder, nothing_denied}
 use Rattle.ll_policy.specs.declared.profile.Rule.{Rule}
 use Rattle.ll_policy.specs.declared.profile.Layer.{Layer}
 use Rattle.ll_commands.specs.declared.confinement.Confinement.{Confinement}

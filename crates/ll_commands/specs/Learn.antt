@@ -1,28 +1,66 @@
 -- What `learn` learns from a saved history. own
 use Rattle.std.specs.Prelude.{⊤, ◌≡◌, ◌⊎◌, ◌<◌, ◌≤◌, ◌+◌, ◌-◌, ◌^◌, min, ℕ, List, [], ◌∷◌, Option, Some, None, Result}
-use Rattle.std.specs.Prelude.{Ok}
-use Rattle.std.specs.Prelude.{Err, codes, decimal, length, slice_get, string_bytes, unwrap_or}
+use Rattle.std.specs.Prelude.{Ok, Err, IfSome, codes, decimal, filter, false, length, map, slice_get, string_bytes}
+use Rattle.std.specs.Prelude.{unwrap_or}
 use Rattle.std.specs.List.{concat}
 use Rattle.std.specs.Option.{option_map_or}
+use Rattle.ll_rights.specs.Access.{known_set}
+use Rattle.ll_path.specs.Path.{path_of_text}
 use Rattle.ll_seq.specs.declared.reply.Entry.{Entry}
+use Rattle.ll_seq.specs.History.{is_connect}
+use Rattle.ll_wire.specs.Entries.{version_rules}
 use Rattle.ll_wire.specs.Grammar.{call_tokens, line_of}
 use Rattle.ll_wire.specs.Pieces.{pieces}
+use Rattle.ll_wire.specs.Transcript.{Writes}
+use Rattle.ll_wire.specs.Writing.{AppendsFront}
 use Rattle.ll_wire.specs.declared.header.Header.{Header}
 use Rattle.ll_audit.specs.Saved.{IsFirstBad, Tell, opened}
 use Rattle.ll_audit.specs.declared.verdict.Verdict.TheVariants.{Legal, Illegal, BadLine}
+use Rattle.ll_learn.specs.declared.fault.Unlearned.{Unlearned}
+use Rattle.ll_learn.specs.declared.fault.Unlearned.TheVariants.{NoNode}
+use Rattle.ll_learn.specs.declared.learned.Aim.{Aim}
 use Rattle.ll_learn.specs.declared.needs.Origin.{Origin}
-use Rattle.ll_learn.specs.declared.profile.Profile.{Profile}
-use Rattle.ll_learn.specs.Learned.{IsCut, IsLearned}
+use Rattle.ll_learn.specs.declared.profile.LearnedProfile.{LearnedProfile}
+use Rattle.ll_learn.specs.Learned.{IsCut, IsLearned, IsUnlearned}
 use Rattle.ll_learn.specs.Profile.{profile_text}
-use Rattle.ll_options.specs.Options.{LearnOrder}
-use Rattle.ll_runs.specs.declared.conclusion.Conclusion.{Conclusion}
-use Rattle.ll_runs.specs.declared.conclusion.Conclusion.TheVariants.{Checked, Done, Judged, Stopped}
-use Rattle.ll_runs.specs.declared.checked.Checked.TheVariants as checked
-use Rattle.ll_runs.specs.declared.failure.Failure.{Failure}
-use Rattle.ll_runs.specs.declared.failure.Failure.TheVariants.{CommandLine, Policy, Opening, File, Output, Socket}
-use Rattle.ll_runs.specs.declared.failure.Failure.TheVariants.{NoMemory}
+use Rattle.ll_program.specs.Learn.{IsWithheld, most_rules, profile_name}
+use Rattle.ll_program.specs.Options.{LearnOrder, fits_learn}
+use Rattle.ll_program.specs.Paths.{HasBadWord}
+use Rattle.ll_program.specs.Sources.{named}
+use Rattle.ll_program.specs.declared.conclusion.Conclusion.{Conclusion}
+use Rattle.ll_program.specs.declared.conclusion.Conclusion.TheVariants.{Checked, Done, Judged, Stopped}
+use Rattle.ll_program.specs.declared.checked.Checked.TheVariants as checked
+use Rattle.ll_program.specs.declared.failure.Failure.{Failure}
+use Rattle.ll_program.specs.declared.failure.Failure.TheVariants.{CommandLine, Policy, Opening, File, Output, Socket}
+use Rattle.ll_program.specs.declared.failure.Failure.TheVariants.{NoMemory}
 use Rattle.ll_commands.specs.declared.learn.Learned.{Learned}
 use Rattle.ll_commands.specs.declared.learn.Learned.TheVariants as learned
+
+-- ---- What is aimed at
+
+-- the clients that connect, in order
+abbrev pub connected : List Entry → List ℕ
+connected es = map (λ e. e.client) (filter (λ e. is_connect e.call) es)
+
+-- the second of them: the first makes a policy's nodes. Where there is no second, the first, and else the client 1
+abbrev pub client_among : List ℕ → ℕ
+client_among [] = 1
+client_among (first ∷ []) = first
+client_among (first ∷ second ∷ others) = second
+
+-- for the client that is told, or that one: all rights of the history's level, but those of --never
+pub record IsAim (order : LearnOrder) (h : Header) (es : List Entry) (aim : Aim) : Type 0 where
+  pub client : aim.client ≡ unwrap_or order.client (client_among (connected es))
+  pub handled : aim.handled.0 ≡ known_set (version_rules h.version).abi
+  pub never : IsWithheld order.never (Some aim.never)
+  pub beneath : aim.beneath.now ≡ map path_of_text order.beneath
+
+-- this is the history with the text, and what is to be learned from it
+pub record Teaches (order : LearnOrder) (text : List ℕ) (h : Header) (es : List Entry) (aim : Aim) : Type 0 where
+  pub tells : Tell (pieces text) h es
+  pub aimed : IsAim order h es aim
+
+-- ---- What is learned
 
 -- the number of an entry behind so many others; no list in memory is so long that it would be another
 abbrev pub number_behind : ℕ → ℕ → ℕ
@@ -36,64 +74,93 @@ entry_note cut es origin =
     (λ (e : Entry). concat (codes "entry " ∷ decimal number ∷ codes ": " ∷ line_of (call_tokens e.call) ∷ []))
     (slice_get es (number - 1)) (codes "\n")
 
-abbrev pub name_of : LearnOrder → List ℕ
-name_of order = unwrap_or order.name (codes "learned")
-
-abbrev pub most_of : LearnOrder → ℕ
-most_of order = unwrap_or order.most 256
-
 -- the profile that is learned behind so many of the entries is told, if it hasn't too many rules
-abbrev pub IsTold : LearnOrder → List Entry → ℕ → Profile → Learned → Type 0
+abbrev pub IsTold : LearnOrder → List Entry → ℕ → LearnedProfile → Learned → Type 0
 IsTold order es cut profile (learned.Profile text) =
-    (length profile.rules.items ≤ most_of order)
-    × (string_bytes text ≡ profile_text (entry_note cut es) (name_of order) profile)
+    (length profile.rules.items ≤ most_rules order) × (name : List ℕ) × (profile_name order ≡ Some name)
+    × (string_bytes text ≡ profile_text (entry_note cut es) name profile)
 IsTold order es cut profile (learned.BadLine line) = ⊥
 IsTold order es cut profile (learned.Nothing fault) = ⊥
 IsTold order es cut profile (learned.Many rules) =
-    (rules ≡ length profile.rules.items) × (most_of order < rules)
-
--- what is written of it, if it is a profile
-abbrev pub IsWritten : Learned → (List ℕ → Type 0) → Type 0
-IsWritten (learned.Profile text) Wrote = Wrote (string_bytes text)
-IsWritten other Wrote = ⊥
+    (rules ≡ length profile.rules.items) × (most_rules order < rules)
 
 -- the text is of a profile that is learned from the history with this text
 pub record IsProfileText (order : LearnOrder) (text written : List ℕ) : Type 0 where
   pub header : Header
   pub entries : List Entry
-  pub client : ℕ
+  pub aim : Aim
   pub cut : ℕ
-  pub profile : Profile
-  pub tells : Tell (pieces text) header entries
-  pub is_cut : IsCut entries client cut
-  pub learned : IsLearned (opened header) entries client profile
-  pub few : length profile.rules.items ≤ most_of order
-  pub is : written ≡ profile_text (entry_note cut entries) (name_of order) profile
+  pub profile : LearnedProfile
+  pub name : List ℕ
+  pub teaches : Teaches order text header entries aim
+  pub is_cut : IsCut entries aim.client cut
+  pub learned : IsLearned (opened header) (entries ∷ []) aim profile
+  pub few : length profile.rules.items ≤ most_rules order
+  pub named : profile_name order ≡ Some name
+  pub is : written ≡ profile_text (entry_note cut entries) name profile
+
+-- nothing is learned from it, and why
+abbrev pub TeachesNothing : LearnOrder → List ℕ → Unlearned → Type 0
+TeachesNothing order text fault =
+    (h : Header) × (es : List Entry) × (aim : Aim) × Teaches order text h es aim
+    × IsUnlearned (opened h) (es ∷ []) aim fault
+
+-- the profile that is learned from it has so many rules, which is more than it may have
+abbrev pub TeachesMuch : LearnOrder → List ℕ → ℕ → Type 0
+TeachesMuch order text rules =
+    (h : Header) × (es : List Entry) × (aim : Aim) × (profile : LearnedProfile) × Teaches order text h es aim
+    × IsLearned (opened h) (es ∷ []) aim profile × (rules ≡ length profile.rules.items) × (most_rules order < rules)
 
 abbrev pub IsLearnedOf : LearnOrder → List ℕ → Learned → Type 0
 IsLearnedOf order text (learned.Profile written) = IsProfileText order text (string_bytes written)
 IsLearnedOf order text (learned.BadLine line) = IsFirstBad (pieces text) line
-IsLearnedOf order text (learned.Nothing fault) = ⊤
-IsLearnedOf order text (learned.Many rules) = ⊤
+IsLearnedOf order text (learned.Nothing fault) = TeachesNothing order text fault
+IsLearnedOf order text (learned.Many rules) = TeachesMuch order text rules
 
--- what keeps a history from being read: the words, the file, or want of memory
-abbrev pub IsReadFault : Failure → Type 0
-IsReadFault failure = (failure ≡ CommandLine) ⊎ (failure ≡ File) ⊎ (failure ≡ NoMemory)
+-- words of the command line ask for what can't be: a name that no profile may have, rights that aren't spelled so, a
+-- path that isn't spelled so, or one that names nothing
+abbrev pub IsMisaimed : LearnOrder → List ℕ → Type 0
+IsMisaimed order text =
+    (profile_name order ≡ None) ⊎ IsWithheld order.never None ⊎ HasBadWord order.beneath
+    ⊎ ((index : ℕ) × TeachesNothing order text (NoNode index))
 
--- A profile is written; or the history has a bad line, or nothing is learned from it; or any failure but a listener's
-abbrev pub EndsLearn : Result Conclusion Failure → Type 0
-EndsLearn (Ok Done) = ⊤
-EndsLearn (Ok (Stopped stopped)) = ⊥
-EndsLearn (Ok (Judged (Legal entries))) = ⊥
-EndsLearn (Ok (Judged (Illegal entry))) = ⊥
-EndsLearn (Ok (Judged (BadLine line))) = ⊤
-EndsLearn (Ok (Checked checked.Passed)) = ⊥
-EndsLearn (Ok (Checked checked.Failed)) = ⊤
-EndsLearn (Ok (Checked checked.BadLine)) = ⊤
-EndsLearn (Err CommandLine) = ⊤
-EndsLearn (Err (Policy fault)) = ⊤
-EndsLearn (Err Opening) = ⊤
-EndsLearn (Err File) = ⊤
-EndsLearn (Err Output) = ⊤
-EndsLearn (Err Socket) = ⊥
-EndsLearn (Err NoMemory) = ⊤
+-- why nothing is known of the history with this text: the words, the file, or want of memory
+abbrev pub LacksLesson : LearnOrder → List ℕ → Failure → Type 0
+LacksLesson order text CommandLine = IsMisaimed order text
+LacksLesson order text (Policy fault) = ⊥
+LacksLesson order text Opening = ⊥
+LacksLesson order text File = ⊤
+LacksLesson order text Output = ⊥
+LacksLesson order text Socket = ⊥
+LacksLesson order text NoMemory = ⊤
+
+-- ---- How it ends
+
+-- A profile of the history with this text is written whole, or a beginning of it where the output fails. Else nothing
+-- is written there: the history has a bad line, nothing is learned from it, or the profile has too many rules
+abbrev pub IsLearning : LearnOrder → List ℕ → (out out' : Option (List ℕ)) → Result Conclusion Failure → Type 0
+IsLearning order text out out' (Ok Done) = Writes out out' (IsProfileText order text)
+IsLearning order text out out' (Ok (Stopped stopped)) = ⊥
+IsLearning order text out out' (Ok (Judged (Legal entries))) = ⊥
+IsLearning order text out out' (Ok (Judged (Illegal entry))) = ⊥
+IsLearning order text out out' (Ok (Judged (BadLine line))) = IsFirstBad (pieces text) line × (out' ≡ out)
+IsLearning order text out out' (Ok (Checked checked.Passed)) = ⊥
+IsLearning order text out out' (Ok (Checked checked.Failed)) =
+    (fault : Unlearned) × TeachesNothing order text fault × (out' ≡ out)
+IsLearning order text out out' (Ok (Checked checked.BadLine)) = ⊥
+IsLearning order text out out' (Err CommandLine) =
+    (IsMisaimed order text ⊎ ((rules : ℕ) × TeachesMuch order text rules)) × (out' ≡ out)
+IsLearning order text out out' (Err (Policy fault)) = ⊥
+IsLearning order text out out' (Err Opening) = ⊥
+IsLearning order text out out' (Err File) = out' ≡ out
+IsLearning order text out out' (Err Output) =
+    (written : List ℕ) × IsProfileText order text written × AppendsFront out out' written
+IsLearning order text out out' (Err Socket) = ⊥
+IsLearning order text out out' (Err NoMemory) = out' ≡ out
+
+-- Words that don't go together are refused; else it ends so, where the history that is named has its text
+abbrev pub EndsLearn : (texts : Option (List ℕ) → Option (List ℕ)) → LearnOrder → Result Conclusion Failure → Type 0
+EndsLearn texts order result =
+    ((fits_learn order ≡ false) × (result ≡ Err CommandLine))
+    ⊎ ((name text : List ℕ) × (out out' : Option (List ℕ)) × (order.history ≡ Some name)
+    × IfSome (texts (named name)) (λ told. text ≡ told) × IsLearning order text out out' result)

@@ -8,8 +8,8 @@ use Rattle.ll_seq.specs.declared.call.Call.TheVariants.{Connect}
 use Rattle.ll_seq.specs.State.{State, start}
 use Rattle.ll_seq.specs.Step.{step}
 use Rattle.ll_plain.specs.Refusal.{is_refusal}
-use Rattle.ll_runs.specs.declared.failure.Failure.{Failure}
-use Rattle.ll_runs.specs.declared.failure.Failure.TheVariants as failure
+use Rattle.ll_program.specs.declared.failure.Failure.{Failure}
+use Rattle.ll_program.specs.declared.failure.Failure.TheVariants as failure
 use Rattle.ll_session.specs.declared.setup.Setup.{Setup}
 
 -- the client makes this call, which isn't refused. fresh: a spawned client's number

@@ -1,7 +1,7 @@
 -- How a command fails that writes one text. own
 use Rattle.std.specs.Prelude.{◌≡◌, ◌⊎◌, ℕ, List, Option}
-use Rattle.ll_runs.specs.declared.failure.Failure.{Failure}
-use Rattle.ll_runs.specs.declared.failure.Failure.TheVariants.{Output}
+use Rattle.ll_program.specs.declared.failure.Failure.{Failure}
+use Rattle.ll_program.specs.declared.failure.Failure.TheVariants.{Output}
 use Rattle.ll_wire.specs.Writing.{AppendsFront}
 
 -- there is no such text for this reason, and nothing is written; or the output fails behind a beginning of one

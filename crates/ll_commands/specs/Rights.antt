@@ -1,11 +1,10 @@
 -- The rights of a policy's profile, told as a table. own
-use Rattle.std.specs.Prelude.{◌≡◌, ◌≢◌, ◌⊎◌, ⊤, ℕ, Bool, List, [], ◌∷◌, ◌++◌, map, codes, Option, Some, None}
+use Rattle.std.specs.Prelude.{◌≡◌, ◌⊎◌, ⊤, ℕ, Bool, List, [], ◌∷◌, ◌++◌, map, codes, Option, Some, None}
 use Rattle.std.specs.Prelude.{IfSome, Result, Ok, Err, false, option_to_list}
 use Rattle.std.specs.List.{flat_map}
 use Rattle.std.specs.Option.{option_map_or}
 use Rattle.clap.specs.Words.{Text}
-use Rattle.ll_path.specs.Path.{Path, path_of_text, path_refusals}
-use Rattle.ll_path.specs.Word.{IsWord}
+use Rattle.ll_path.specs.Path.{Path, path_of_text}
 use Rattle.ll_path.specs.declared.target.Target.{Target}
 use Rattle.ll_path.specs.declared.target.Target.TheVariants.{Good, Bad}
 use Rattle.ll_rules.specs.Layer.{Layer}
@@ -15,13 +14,14 @@ use Rattle.ll_seq.specs.declared.call.Call.TheVariants.{Stat, Exec, Unlink, Rmdi
 use Rattle.ll_seq.specs.declared.call.Call.TheVariants.{Link, Ruleset, Allow, Confine, Spawn, Connect}
 use Rattle.ll_seq.specs.State.{State}
 use Rattle.ll_seq.specs.Step.{client_of}
-use Rattle.ll_options.specs.Options.{RightsOrder, RunOrder}
-use Rattle.ll_runs.specs.Policy.{IsSetup, Lacks}
-use Rattle.ll_runs.specs.declared.conclusion.Conclusion.{Conclusion}
-use Rattle.ll_runs.specs.declared.conclusion.Conclusion.TheVariants.{Checked, Done, Judged, Stopped}
-use Rattle.ll_runs.specs.declared.failure.Failure.{Failure}
-use Rattle.ll_runs.specs.declared.failure.Failure.TheVariants.{CommandLine, Policy, Opening, File, Output, Socket}
-use Rattle.ll_runs.specs.declared.failure.Failure.TheVariants.{NoMemory}
+use Rattle.ll_program.specs.Options.{RightsOrder, TreeOrder, profile_tree}
+use Rattle.ll_program.specs.Paths.{HasBadWord}
+use Rattle.ll_program.specs.Policy.{IsSetup, Lacks}
+use Rattle.ll_program.specs.declared.conclusion.Conclusion.{Conclusion}
+use Rattle.ll_program.specs.declared.conclusion.Conclusion.TheVariants.{Checked, Done, Judged, Stopped}
+use Rattle.ll_program.specs.declared.failure.Failure.{Failure}
+use Rattle.ll_program.specs.declared.failure.Failure.TheVariants.{CommandLine, Policy, Opening, File, Output, Socket}
+use Rattle.ll_program.specs.declared.failure.Failure.TheVariants.{NoMemory}
 use Rattle.ll_session.specs.declared.setup.Setup.{Setup}
 use Rattle.ll_why.specs.Rights.{AreRights}
 use Rattle.ll_why.specs.declared.rights.PathRights.{PathRights}
@@ -73,40 +73,23 @@ abbrev pub paths_told : List Text → Setup → List Path
 paths_told [] setup = option_map_or (λ calls. made_paths calls.items) setup.loader []
 paths_told (word ∷ words) setup = map path_of_text (word ∷ words)
 
--- the run whose first client is the one that is asked about
-abbrev pub run_of : RightsOrder → RunOrder
-run_of order = record {
-  script = codes "-";
-  nodes = order.nodes;
-  level = None;
-  history = 1;
-  policy = Some order.policy;
-  profile = Some order.profile;
-  save = None;
-  strict = false;
-}
+-- the tree whose first client is the one that is asked about
+abbrev pub table_tree : RightsOrder → TreeOrder
+table_tree order = profile_tree order.policy order.profile order.nodes
 
 -- The table of the profile's rights, where the policy's file has this text: those of its client when it has confined
 -- itself
 abbrev pub IsTable : RightsOrder → List ℕ → List ℕ → Type 0
 IsTable order text table =
-    (setup : Setup) × (client : ℕ) × (s : State) × IsSetup (run_of order) text setup × Opens setup client s
+    (setup : Setup) × (client : ℕ) × (s : State) × IsSetup (table_tree order) text setup × Opens setup client s
     × AreRows s (client_of s client).domain order.layers (paths_told order.paths setup) table
-
--- the word spells no path
-abbrev pub IsBadWord : Text → Type 0
-IsBadWord word = (IsWord word → ⊥) ⊎ (path_refusals word ≢ [])
-
-abbrev pub HasBadWord : List Text → Type 0
-HasBadWord [] = ⊥
-HasBadWord (word ∷ words) = IsBadWord word ⊎ HasBadWord words
 
 -- Why there is no table: a word spells no path; there is no setup; a call that the policy asks for is refused; the file
 -- can't be read; want of memory
 abbrev pub LacksTable : RightsOrder → List ℕ → Failure → Type 0
-LacksTable order text CommandLine = HasBadWord order.paths ⊎ Lacks (run_of order) text CommandLine
-LacksTable order text (Policy fault) = Lacks (run_of order) text (Policy fault)
-LacksTable order text Opening = (setup : Setup) × IsSetup (run_of order) text setup × IsStopped setup
+LacksTable order text CommandLine = HasBadWord order.paths ⊎ Lacks (table_tree order) text CommandLine
+LacksTable order text (Policy fault) = Lacks (table_tree order) text (Policy fault)
+LacksTable order text Opening = (setup : Setup) × IsSetup (table_tree order) text setup × IsStopped setup
 LacksTable order text File = ⊤
 LacksTable order text Output = ⊥
 LacksTable order text Socket = ⊥
@@ -127,12 +110,6 @@ EndsRights texts order (Ok (Checked end)) = ⊥
 EndsRights texts order (Err failure) =
     (text : List ℕ) × IfSome (texts (Some order.policy)) (λ told. text ≡ told)
     × (out out' : Option (List ℕ)) × MayFail order text out out' failure
-
--- the paths of the words can't be told
-abbrev pub IsOfWords : Failure → Type 0
-IsOfWords CommandLine = ⊤
-IsOfWords NoMemory = ⊤
-IsOfWords failure = ⊥
 
 -- the text is behind what was there, and holds a line for each path
 abbrev pub AddsRows : State → List Layer → Bool → List Path → (old new : List ℕ) → Type 0

@@ -2,7 +2,7 @@
 use Rattle.std.specs.Prelude.{◌≡◌, true, unwrap_or}
 use Rattle.ll_steps.specs.declared.setup.WorldSetup.{WorldSetup}
 use Rattle.ll_picture.specs.declared.window.Window.{Window}
-use Rattle.ll_options.specs.Options.{ScheduleOrder}
+use Rattle.ll_program.specs.Options.{ScheduleOrder}
 
 -- The setup that is wanted
 pub record IsWorldSetup (order : ScheduleOrder) (setup : WorldSetup) : Type 0 where

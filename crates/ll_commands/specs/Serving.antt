@@ -5,12 +5,12 @@ use Rattle.std.specs.declared.alloc.Global.{Global}
 use Rattle.std.specs.declared.vec.Vec.{Vec}
 use Rattle.ll_client.specs.Closed.{IsClosed}
 use Rattle.ll_client.specs.Entries.{Knows}
-use Rattle.ll_options.specs.Options.{RunOrder, ServeOrder}
-use Rattle.ll_runs.specs.Failure.{IsOfSaving}
-use Rattle.ll_runs.specs.Policy.{IsSaved, IsSetup, Lacks}
-use Rattle.ll_runs.specs.declared.failure.Failure.{Failure}
-use Rattle.ll_runs.specs.declared.failure.Failure.TheVariants.{CommandLine, Policy, Opening, File, Output, Socket}
-use Rattle.ll_runs.specs.declared.failure.Failure.TheVariants.{NoMemory}
+use Rattle.ll_program.specs.Options.{ServeOrder, served_tree}
+use Rattle.ll_program.specs.Failure.{IsOfSaving}
+use Rattle.ll_program.specs.Policy.{IsSaved, IsSetup, Lacks}
+use Rattle.ll_program.specs.declared.failure.Failure.{Failure}
+use Rattle.ll_program.specs.declared.failure.Failure.TheVariants.{CommandLine, Policy, Opening, File, Output, Socket}
+use Rattle.ll_program.specs.declared.failure.Failure.TheVariants.{NoMemory}
 use Rattle.ll_seq.specs.declared.call.Call.{Call}
 use Rattle.ll_seq.specs.declared.reply.Entry.{Entry}
 use Rattle.ll_commands.specs.Loading.{HasLoaded, WasStopped}
@@ -23,19 +23,6 @@ use Rattle.ll_wire.specs.Writing.{AppendsFront}
 -- the line that tells the port
 abbrev pub listening : ℕ → List ℕ
 listening port = line_of (codes "listening" ∷ decimal port ∷ [])
-
--- the run that sets up the same tree
-abbrev pub run_of : ServeOrder → RunOrder
-run_of order = record {
-  script = [];
-  nodes = order.nodes;
-  level = order.level;
-  history = order.history;
-  policy = order.policy;
-  profile = order.profile;
-  save = order.save;
-  strict = false;
-}
 
 -- the entries begin with those that the loader's calls have on a fresh tree, if there is a loader: none is refused
 abbrev pub BeginsLoaded : Setup → List Entry → Type 0
@@ -54,7 +41,7 @@ IsServed setup entries =
 -- else; and the history is saved, where a file is named
 abbrev pub IsDone : ServeOrder → List ℕ → (out out' blank file file' : Option (List ℕ)) → Type 0
 IsDone order text out out' blank file file' =
-    (setup : Setup) × (entries : List Entry) × IsSetup (run_of order) text setup × IsServed setup entries
+    (setup : Setup) × (entries : List Entry) × IsSetup (served_tree order) text setup × IsServed setup entries
     × Appends out out' (listening order.port) × IsSaved order.save setup entries blank file file'
 
 -- the loader's calls may all be made on the fresh tree, if there is one
@@ -76,10 +63,10 @@ MayStop setup port out out' NoMemory = (out' ≡ out) ⊎ Appends out out' (list
 -- tree of that setup isn't served on; or the history that is to be saved can't be. What stood in the file stays
 abbrev pub MayFail : ServeOrder → List ℕ → (out out' file file' : Option (List ℕ)) → Failure → Type 0
 MayFail order text out out' file file' failure =
-    ((is_some order.policy ≡ true) × Lacks (run_of order) text failure × (out' ≡ out) × (file' ≡ file))
-    ⊎ ((setup : Setup) × IsSetup (run_of order) text setup × MayStop setup order.port out out' failure
+    ((is_some order.policy ≡ true) × Lacks (served_tree order) text failure × (out' ≡ out) × (file' ≡ file))
+    ⊎ ((setup : Setup) × IsSetup (served_tree order) text setup × MayStop setup order.port out out' failure
     × (file' ≡ file))
-    ⊎ ((is_some order.save ≡ true) × IsOfSaving failure × (setup : Setup) × IsSetup (run_of order) text setup
+    ⊎ ((is_some order.save ≡ true) × IsOfSaving failure × (setup : Setup) × IsSetup (served_tree order) text setup
     × Appends out out' (listening order.port) × (file' ≡ file))
 
 -- ---- Support of the functions below `serve`

@@ -11,15 +11,15 @@ use Rattle.ll_wire.specs.Grammar.{SpellsCommand, call_tokens, line_of, reply_tok
 use Rattle.ll_wire.specs.Pieces.{pieces}
 use Rattle.ll_audit.specs.Saved.{verdict_line}
 use Rattle.ll_audit.specs.declared.verdict.Verdict.TheVariants as verdict
-use Rattle.ll_options.specs.Options.{Asked, RunOrder, WhyOrder, asked_by, of_command, of_entry}
-use Rattle.ll_runs.specs.Policy.{IsSetup, Lacks}
-use Rattle.ll_runs.specs.declared.conclusion.Conclusion.{Conclusion}
-use Rattle.ll_runs.specs.declared.conclusion.Conclusion.TheVariants.{Done, Judged}
-use Rattle.ll_runs.specs.declared.failure.Failure.{Failure}
-use Rattle.ll_runs.specs.declared.failure.Failure.TheVariants.{CommandLine, Policy, Opening, File, Output, Socket}
-use Rattle.ll_runs.specs.declared.failure.Failure.TheVariants.{NoMemory}
+use Rattle.ll_program.specs.Options.{Asked, TreeOrder, WhyOrder, asked_by, of_command, of_entry, profile_tree}
+use Rattle.ll_program.specs.Policy.{IsSetup, Lacks}
+use Rattle.ll_program.specs.declared.conclusion.Conclusion.{Conclusion}
+use Rattle.ll_program.specs.declared.conclusion.Conclusion.TheVariants.{Done, Judged}
+use Rattle.ll_program.specs.declared.failure.Failure.{Failure}
+use Rattle.ll_program.specs.declared.failure.Failure.TheVariants.{CommandLine, Policy, Opening, File, Output, Socket}
+use Rattle.ll_program.specs.declared.failure.Failure.TheVariants.{NoMemory}
 use Rattle.ll_session.specs.declared.setup.Setup.{Setup}
-use Rattle.ll_runs.specs.Sources.{named}
+use Rattle.ll_program.specs.Sources.{named}
 use Rattle.ll_wire.specs.Transcript.{Writes}
 use Rattle.ll_commands.specs.Opening.{IsStopped, Opens}
 use Rattle.ll_commands.specs.Output.{FailsToTell}
@@ -44,30 +44,17 @@ pub record IsCallWhy (level : ℕ) (s : State) (client : ℕ) (call : Call) (tex
   pub answered : (fresh : ℕ) × (has s.clients fresh ≡ false) × (reply ≡ (step s client call fresh).0)
   pub is : text ≡ command_text call reply told
 
--- the run whose first client makes the command
-abbrev pub run_by : (policy profile : Text) → ℕ → RunOrder
-run_by file name n = record {
-  script = codes "-";
-  nodes = n;
-  level = None;
-  history = 1;
-  policy = Some file;
-  profile = Some name;
-  save = None;
-  strict = false;
-}
-
 -- the word is a command's line, but for the line feed (10)
 abbrev pub IsCommand : Text → Call → Type 0
 IsCommand word call = SpellsCommand (word ++ 10 ∷ []) 1 call
 
 -- the text is of the command that the word spells, in a new tree by the policy with this text
-pub record IsCommandWhy (run : RunOrder) (policy word text : List ℕ) : Type 0 where
+pub record IsCommandWhy (tree : TreeOrder) (policy word text : List ℕ) : Type 0 where
   pub setup : Setup
   pub client : ℕ
   pub state : State
   pub call : Call
-  pub is_setup : IsSetup run policy setup
+  pub is_setup : IsSetup tree policy setup
   pub opens : Opens setup client state
   pub spells : IsCommand word call
   pub is : IsCallWhy setup.rules.abi state client call text
@@ -76,16 +63,16 @@ abbrev pub EntryAnswers : ℕ → List ℕ → Answer → Type 0
 EntryAnswers number file (Told text) = IsHistoryWhy (pieces file) number (history.Told text)
 EntryAnswers number file (BadLine line) = IsHistoryWhy (pieces file) number (history.BadLine line)
 
-abbrev pub CommandAnswers : RunOrder → (word file : List ℕ) → Answer → Type 0
-CommandAnswers run word file (Told text) = IsCommandWhy run file word (string_bytes text)
-CommandAnswers run word file (BadLine line) = ⊥
+abbrev pub CommandAnswers : TreeOrder → (word file : List ℕ) → Answer → Type 0
+CommandAnswers tree word file (Told text) = IsCommandWhy tree file word (string_bytes text)
+CommandAnswers tree word file (BadLine line) = ⊥
 
 -- what is answered, where the file of the history or the policy has this text
 abbrev pub Answers : ℕ → Option Asked → List ℕ → Answer → Type 0
 Answers nodes None file answer = ⊥
 Answers nodes (Some (of_entry name number)) file answer = EntryAnswers number file answer
 Answers nodes (Some (of_command policy profile word)) file answer =
-    CommandAnswers (run_by policy profile nodes) word file answer
+    CommandAnswers (profile_tree policy profile nodes) word file answer
 
 abbrev pub IsAnswer : WhyOrder → List ℕ → Answer → Type 0
 IsAnswer order file answer = Answers order.nodes (asked_by order) file answer
@@ -121,22 +108,22 @@ EntryFails number file NoMemory = ⊤
 
 -- why a command isn't: the word spells none; there is no setup; a call that the policy asks for is refused; and as
 -- above
-abbrev pub CommandFails : RunOrder → (word file : List ℕ) → Failure → Type 0
-CommandFails run word file CommandLine =
-    ((call : Call) → IsCommand word call → ⊥) ⊎ Lacks run file CommandLine
-CommandFails run word file (Policy fault) = Lacks run file (Policy fault)
-CommandFails run word file Opening = (setup : Setup) × IsSetup run file setup × IsStopped setup
-CommandFails run word file File = ⊤
-CommandFails run word file Output = ⊥
-CommandFails run word file Socket = ⊥
-CommandFails run word file NoMemory = ⊤
+abbrev pub CommandFails : TreeOrder → (word file : List ℕ) → Failure → Type 0
+CommandFails tree word file CommandLine =
+    ((call : Call) → IsCommand word call → ⊥) ⊎ Lacks tree file CommandLine
+CommandFails tree word file (Policy fault) = Lacks tree file (Policy fault)
+CommandFails tree word file Opening = (setup : Setup) × IsSetup tree file setup × IsStopped setup
+CommandFails tree word file File = ⊤
+CommandFails tree word file Output = ⊥
+CommandFails tree word file Socket = ⊥
+CommandFails tree word file NoMemory = ⊤
 
 -- where nothing is asked, the words are wrong
 abbrev pub Fails : ℕ → Option Asked → List ℕ → Failure → Type 0
 Fails nodes None file failure = failure ≡ CommandLine
 Fails nodes (Some (of_entry name number)) file failure = EntryFails number file failure
 Fails nodes (Some (of_command policy profile word)) file failure =
-    CommandFails (run_by policy profile nodes) word file failure
+    CommandFails (profile_tree policy profile nodes) word file failure
 
 abbrev pub LacksAnswer : WhyOrder → List ℕ → Failure → Type 0
 LacksAnswer order file failure = Fails order.nodes (asked_by order) file failure

@@ -2,7 +2,7 @@
 
 ghost use Rattle.std.specs.Prelude.{◌≡◌, ◌++◌, map, unwrap_or, IfOk, OnOk, string_bytes};
 ghost use Rattle.std.specs.List.{flat_map};
-ghost use Rattle.ll_options.specs.Options.{exported_in, nothing_denied};
+ghost use Rattle.ll_program.specs.Options.{exported_in, nothing_denied};
 ghost use Rattle.ll_commands.specs.CProgram.{c_byte, c_denied, c_flag, c_layer, c_option, c_options, c_path, c_place};
 ghost use Rattle.ll_commands.specs.CProgram.{c_row, c_rows, c_rule, c_string, c_text, c_type, c_values, is_plain};
 ghost use Rattle.ll_commands.specs.CProgram.{root_of};
@@ -10,8 +10,8 @@ ghost use Rattle.ll_commands.specs.CProgram.{root_of};
 use crate::confinement::{Confinement, kind_at};
 use crate::fixed::{HEAD, HELPERS, RESTRICT_SELF, TAIL};
 use crate::text::concat;
-use ll_options::{Denied, ExportOptions};
 use ll_policy::{Layer, Rule};
+use ll_program::{Denied, ExportOptions};
 use ll_rights::{Access, Kind};
 use ll_seq::Call;
 use std::alloc::{AllocError, Global};

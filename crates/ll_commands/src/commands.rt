@@ -11,8 +11,8 @@ ghost use Rattle.ll_commands.specs.Why.{IsCallWhy, IsCommand, command_text};
 
 use crate::open_tree;
 use ll_plain::Plain;
+use ll_program::Failure;
 use ll_rights::{Abi, Errno};
-use ll_runs::Failure;
 use ll_seq::{Call, Reply};
 use ll_session::Setup;
 use ll_why::{Explanation, call_line, explain};

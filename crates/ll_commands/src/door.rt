@@ -3,7 +3,7 @@
 use crate::bounded::{Heard, Told, bounded};
 use crate::log::Log;
 use crate::port::{Listens, Missed};
-use ll_options::ServeOptions;
+use ll_program::ServeOptions;
 use ll_session::Accepts;
 use std::alloc::Global;
 use std::io::Write;

@@ -4,9 +4,9 @@ ghost use Rattle.std.specs.Prelude.{◌≡◌, ◌≢◌, ◌⊎◌, ℕ, true, 
 ghost use Rattle.std.specs.Prelude.{string_bytes};
 ghost use Rattle.std.specs.Io.KnownBytes.{Keeps};
 ghost use Rattle.ll_wire.specs.Transcript.{Writes};
-ghost use Rattle.ll_options.specs.Options.{exported_in};
-ghost use Rattle.ll_runs.specs.Failure.{EndsExport, IsOfExport};
-ghost use Rattle.ll_runs.specs.declared.checked.Checked as checks;
+ghost use Rattle.ll_program.specs.Options.{exported_in};
+ghost use Rattle.ll_program.specs.Failure.{EndsExport, IsOfExport};
+ghost use Rattle.ll_program.specs.declared.checked.Checked as checks;
 ghost use Rattle.ll_wire.specs.Writing.{AppendsFront};
 ghost use Rattle.ll_commands.specs.Confinement.{is_enforceable};
 ghost use Rattle.ll_commands.specs.Export.{IsExport, MayFail, ended_by, export_text};
@@ -14,10 +14,10 @@ ghost use Rattle.ll_commands.specs.Export.{IsExport, MayFail, ended_by, export_t
 use crate::c_program::c_text;
 use crate::confinement::{Confinement, FlawedProfile};
 use crate::json::json_text;
-use ll_options::{ExportOptions, Form};
 use ll_policy::Policy;
-use ll_runs::{Checked, Conclusion, Failure, policy_of, read_text};
-use ll_wire::write_whole;
+use ll_program::{
+    Checked, Conclusion, ExportOptions, Failure, Form, policy_of, read_text, write_text,
+};
 use std::alloc::{AllocError, Global};
 use std::io::{Read, Write};
 
@@ -143,10 +143,7 @@ pub fn export<R: Read, W: Write>(
         Ok(text) => text,
         Err(failure) => return Err(failure),
     };
-    match write_whole(out, text.as_str()) {
-        Ok(()) => Ok(()),
-        Err(_) => Err(Failure::Output),
-    }
+    write_text(text.as_str(), out)
 }
 
 /// Exports if the profile's checks passed. Otherwise writes nothing and returns the checks' conclusion.

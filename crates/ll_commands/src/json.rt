@@ -3,15 +3,15 @@
 ghost use Rattle.std.specs.Prelude.{◌≡◌, codes, map, IfOk, string_bytes};
 ghost use Rattle.std.specs.List.{join_by};
 ghost use Rattle.ll_rights.specs.Access.{set_names};
-ghost use Rattle.ll_options.specs.Options.{exported_in};
+ghost use Rattle.ll_program.specs.Options.{exported_in};
 ghost use Rattle.ll_commands.specs.Json.{json_denied, json_flag, json_head, json_kind, json_layer, json_names};
 ghost use Rattle.ll_commands.specs.Json.{json_options, json_rule, json_string, json_text, quoted};
 
 use crate::c_program::root_of;
 use crate::confinement::{Confinement, kind_at};
 use crate::text::{concat, joined};
-use ll_options::{Denied, ExportOptions};
 use ll_policy::{Layer, Rule};
+use ll_program::{Denied, ExportOptions};
 use ll_rights::{Abi, Access, Kind, Right};
 use ll_seq::Call;
 use serde_json::Value;

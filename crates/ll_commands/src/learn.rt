@@ -1,29 +1,24 @@
 //! What `learn` learns from a saved history.
 
-ghost use Rattle.std.specs.Prelude.{◌≡◌, ℕ, List, IfErr, IfOk, IfSome, Ok};
-ghost use Rattle.std.specs.Io.KnownBytes.{Appends};
+ghost use Rattle.std.specs.Prelude.{◌≡◌, ◌∷◌, ◌⊎◌, ℕ, List, [], Err, IfErr, IfOk, IfSome, None};
 ghost use Rattle.ll_wire.specs.Pieces.{pieces};
 ghost use Rattle.ll_audit.specs.Saved.{Tell};
-ghost use Rattle.ll_options.specs.Options.{learn_in};
-ghost use Rattle.ll_commands.specs.Learn.{EndsLearn, IsLearnedOf, IsReadFault, IsTold, IsWritten, entry_note};
-ghost use Rattle.ll_commands.specs.Learn.{most_of, name_of};
+ghost use Rattle.ll_learn.specs.declared.learned.Aim as aims;
+ghost use Rattle.ll_program.specs.Learn.{profile_name};
+ghost use Rattle.ll_program.specs.Options.{learn_in};
+ghost use Rattle.ll_commands.specs.Learn.{IsAim, IsLearnedOf, IsLearning, IsTold, LacksLesson, Teaches, client_among};
+ghost use Rattle.ll_commands.specs.Learn.{connected, entry_note};
 
 use crate::text::concat;
 use ll_audit::{ReadFault, Saved, Verdict};
-use ll_learn::{Notes, Origin, Profile, Unlearned, Wanted, cut_of, learn};
-use ll_options::LearnOptions;
-use ll_path::{Path, Word};
+use ll_learn::{Aim, LearnedProfile, Notes, Origin, Unlearned, cut_of, learn};
+use ll_program::{Checked, Conclusion, Failure, LearnOptions, paths_of, read_text, write_text};
 use ll_rights::Access;
 use ll_rights::limits::RULESET_INODES;
-use ll_runs::{Checked, Conclusion, Failure, read_text};
 use ll_seq::Entry;
 use ll_why::call_line;
-use ll_wire::write_whole;
 use std::alloc::{AllocError, Global};
 use std::io::{Read, Write};
-
-/// The profile's name where the words tell none.
-const NAME: &str = "learned";
 
 /// What is learned from a history.
 #[derive(Drop)]
@@ -58,85 +53,20 @@ impl Notes for EntryNotes<'_> {
     }
 }
 
-// The clients that connect: the second, or else the first.
-fn client_of(entries: &[Entry]) -> Option<u64> {
+// The client that is learned for where none is told: the second that connects, or else the first.
+fn client_of(entries: &[Entry]) -> u64
+    ensures { result ≡ client_among (connected entries.now) }
+{
     let mut first = None;
     for entry in entries {
-        if !entry.call.is_connect() {
-            continue;
-        }
-        if first.is_some() {
-            return Some(entry.client);
-        }
-        first = Some(entry.client);
-    }
-    first
-}
-
-// The paths that these words spell.
-fn paths_of(alloc: Global, words: &[&str]) -> Result<Vec<Path>, Failure>
-    ensures { IfErr result IsReadFault }
-{
-    let mut paths = Vec::new(alloc);
-    for word in words {
-        let Ok(text) = String::from_str(alloc, word) else {
-            return Err(Failure::NoMemory);
-        };
-        let Ok(word) = Word::new(text) else {
-            return Err(Failure::CommandLine);
-        };
-        let Ok(path) = Path::parse(word) else {
-            return Err(Failure::CommandLine);
-        };
-        if let Err(refused) = paths.push(path) {
-            drop(refused);
-            return Err(Failure::NoMemory);
+        if entry.call.is_connect() {
+            if first.is_some() {
+                return entry.client;
+            }
+            first = Some(entry.client);
         }
     }
-    Ok(paths)
-}
-
-// The rights that no rule may hold.
-fn never_of(options: &LearnOptions) -> Result<Access, Failure>
-    ensures { IfErr result IsReadFault }
-{
-    match options.never {
-        None => Ok(Access(0)),
-        Some(word) => match Access::parse(word) {
-            Some(rights) => Ok(rights),
-            None => Err(Failure::CommandLine),
-        },
-    }
-}
-
-// Whether a profile may have this name.
-fn is_name(name: &str) -> bool {
-    let bytes = name.as_bytes();
-    !bytes.is_empty()
-        && bytes.len() <= 32
-        && bytes
-            .iter()
-            .all(|b| matches!(*b, b'a'..=b'z' | b'0'..=b'9' | b'-'))
-}
-
-// The profile's name.
-fn name_of<'a>(options: &LearnOptions<'a>) -> &'a str
-    ensures { result.now ≡ name_of (learn_in options.now) }
-{
-    match options.name {
-        Some(name) => name,
-        None => NAME,
-    }
-}
-
-// How many rules it may have.
-fn most_of(options: &LearnOptions) -> usize
-    ensures { result ≡ most_of (learn_in options.now) }
-{
-    match options.most {
-        Some(most) => most as usize,
-        None => RULESET_INODES,
-    }
+    first.unwrap_or(1)
 }
 
 // The profile that is learned behind so many of the entries, as it is told.
@@ -145,39 +75,45 @@ fn told(
     options: &LearnOptions,
     entries: &[Entry],
     cut: usize,
-    profile: &Profile,
+    profile: &LearnedProfile,
 ) -> Result<Learned, Failure>
     ensures told { IfOk result (IsTold (learn_in options.now) entries.now cut profile.now) }
-    ensures fault { IfErr result IsReadFault }
+    ensures failure { IfErr result (λ failure. (failure ≡ Failure.NoMemory)
+        ⊎ ((failure ≡ Failure.CommandLine) × (profile_name (learn_in options.now) ≡ None))) }
 {
     let rules = profile.rules.len();
-    if rules > most_of(options) {
+    if rules > options.most_rules() {
         return Ok(Learned::Many(rules));
     }
+    let Some(name) = options.profile_name() else {
+        return Err(Failure::CommandLine);
+    };
     let notes = EntryNotes { entries, cut };
-    match profile.text(alloc, &notes, name_of(options)) {
+    match profile.text(alloc, &notes, name) {
         Ok(text) => Ok(Learned::Profile(text)),
         Err(_) => Err(Failure::NoMemory),
     }
 }
 
-// What is learned from the history for this client.
+// What the history teaches with this aim.
 fn learned_for(
     alloc: Global,
     options: &LearnOptions,
     saved: &Saved,
-    wanted: &Wanted,
+    aim: &Aim,
 ) -> Result<Learned, Failure>
     ensures learned { IfOk result (λ learned. (text : List ℕ)
-        → Tell (pieces text) saved.now.header saved.now.entries.items
+        → Teaches (learn_in options.now) text saved.now.header saved.now.entries.items aim.now
         → IsLearnedOf (learn_in options.now) text learned) }
-    ensures fault { IfErr result IsReadFault }
+    ensures failure { IfErr result (λ failure. (text : List ℕ)
+        → Teaches (learn_in options.now) text saved.now.header saved.now.entries.items aim.now
+        → LacksLesson (learn_in options.now) text failure) }
 {
     let entries = saved.entries.as_slice();
-    let Some(cut) = cut_of(entries, wanted.client) else {
-        return Ok(Learned::Nothing(Unlearned::NoClient));
+    let Some(cut) = cut_of(entries, aim.client) else {
+        return Ok(Learned::Nothing(Unlearned::NoClient(0)));
     };
-    match learn(alloc, &saved.header, entries, wanted) {
+    match learn(alloc, &saved.header, &[entries], aim) {
         Ok(profile) => told(alloc, options, entries, cut, &profile),
         Err(Unlearned::NoMemory) => Err(Failure::NoMemory),
         Err(Unlearned::NoNode(_)) => Err(Failure::CommandLine),
@@ -185,51 +121,44 @@ fn learned_for(
     }
 }
 
-// What is learned from the history.
-fn learned_of(
-    alloc: Global,
-    options: &LearnOptions,
-    asked: Option<u64>,
-    saved: &Saved,
-) -> Result<Learned, Failure>
+// What the history teaches.
+fn learned_of(alloc: Global, options: &LearnOptions, saved: &Saved) -> Result<Learned, Failure>
     ensures learned { IfOk result (λ learned. (text : List ℕ)
         → Tell (pieces text) saved.now.header saved.now.entries.items
         → IsLearnedOf (learn_in options.now) text learned) }
-    ensures fault { IfErr result IsReadFault }
+    ensures failure { IfErr result (λ failure. (text : List ℕ)
+        → Tell (pieces text) saved.now.header saved.now.entries.items
+        → LacksLesson (learn_in options.now) text failure) }
 {
-    let never = match never_of(options) {
-        Ok(never) => never,
-        Err(failure) => return Err(failure),
+    let Some(never) = options.withheld() else {
+        return Err(Failure::CommandLine);
     };
     let beneath = match paths_of(alloc, options.beneath.as_slice()) {
         Ok(beneath) => beneath,
         Err(failure) => return Err(failure),
     };
-    let Some(client) = asked.or(client_of(saved.entries.as_slice())) else {
-        return Ok(Learned::Nothing(Unlearned::NoClient));
-    };
-    let known = Access::known(saved.header.version.rules().abi);
-    let wanted = Wanted {
-        client,
-        handled: known,
+    let second = client_of(saved.entries.as_slice());
+    let aim = Aim {
+        client: options.client.unwrap_or(second),
+        handled: Access::known(saved.header.version.rules().abi),
         never,
         beneath: beneath.as_slice(),
     };
-    learned_for(alloc, options, saved, &wanted)
+    learned_for(alloc, options, saved, &aim)
 }
 
-/// Learns from the saved history in this file, for the client that is asked for, if one is.
+/// Learns from the saved history in this file.
 pub fn learn_history<R: Read>(
     alloc: Global,
     options: &LearnOptions,
-    asked: Option<u64>,
     file: &mut R,
 ) -> Result<Learned, Failure>
     ensures learned { IfOk result (λ learned. (text : List ℕ) × IfSome (R.remaining file.old) (λ told. text ≡ told)
         × IsLearnedOf (learn_in options.now) text learned) }
-    ensures fault { IfErr result IsReadFault }
+    ensures failure { IfErr result (λ failure. (text : List ℕ) × IfSome (R.remaining file.old) (λ told. text ≡ told)
+        × LacksLesson (learn_in options.now) text failure) }
 {
-    if !is_name(name_of(options)) {
+    if options.profile_name().is_none() {
         return Err(Failure::CommandLine);
     }
     let bytes = match read_text(alloc, file) {
@@ -237,21 +166,25 @@ pub fn learn_history<R: Read>(
         Err(failure) => return Err(failure),
     };
     match Saved::read(alloc, bytes.as_slice()) {
-        Ok(saved) => learned_of(alloc, options, asked, &saved),
+        Ok(saved) => learned_of(alloc, options, &saved),
         Err(ReadFault::BadLine(line)) => Ok(Learned::BadLine(line)),
         Err(ReadFault::NoMemory) => Err(Failure::NoMemory),
     }
 }
 
-// The number of the history's line that it is about, and what is wrong there.
+// The number of the history's entry that it is about, and what is wrong there.
 fn fault_of(fault: Unlearned) -> (Option<usize>, &'static str) {
     match fault {
-        Unlearned::NoClient => (None, "no such client connects"),
-        Unlearned::Illegal(entry) => (Some(entry), "the entry isn't legal"),
-        Unlearned::Denied(entry) => (Some(entry), "the call is denied already"),
-        Unlearned::Full(entry) => (Some(entry), "behind it the client has no room for a layer"),
-        Unlearned::Unmet(entry) => (
-            Some(entry),
+        Unlearned::NoClient(_) => (None, "no such client connects"),
+        Unlearned::Unlike(_) => (None, "it begins in another way"),
+        Unlearned::Illegal(at) => (Some(at.entry), "the entry isn't legal"),
+        Unlearned::Denied(at) => (Some(at.entry), "the call is denied already"),
+        Unlearned::Full(at) => (
+            Some(at.entry),
+            "behind it the client has no room for a layer",
+        ),
+        Unlearned::Unmet(at) => (
+            Some(at.entry),
             "no layer that may be learned lets the call pass",
         ),
         Unlearned::NoNode(_) => (None, "a path of --beneath names nothing"),
@@ -272,23 +205,22 @@ fn fault_line(alloc: Global, name: &str, fault: Unlearned) -> Result<String, All
 
 // The line on rules that are too many.
 fn many_line(alloc: Global, options: &LearnOptions, rules: usize) -> Result<String, AllocError> {
-    let most = most_of(options);
+    let most = options.most_rules();
     format!(in alloc; "{rules} rules, {most} may be: --most {RULESET_INODES}, or --beneath DIR\n")
 }
 
-// Writes why nothing is written to the output, and ends so.
+// Tells why nothing is written to the output, and ends so.
 fn refused<E: Write>(
     err: &mut E,
     line: Result<String, AllocError>,
     end: Result<Conclusion, Failure>,
 ) -> Result<Conclusion, Failure>
-    ensures ends { EndsLearn end → EndsLearn result }
-    ensures done { result ≡ Ok Conclusion.Done → end ≡ Ok Conclusion.Done }
+    ensures { (result ≡ end) ⊎ (result ≡ Err Failure.NoMemory) }
 {
     let Ok(line) = line else {
         return Err(Failure::NoMemory);
     };
-    let _ = write_whole(err, line.as_str());
+    let _ = write_text(line.as_str(), err);
     end
 }
 
@@ -301,14 +233,13 @@ pub fn tell_learned<W: Write, E: Write>(
     out: &mut W,
     err: &mut E,
 ) -> Result<Conclusion, Failure>
-    ensures ends { EndsLearn result }
-    ensures profile { result ≡ Ok Conclusion.Done → IsWritten learned.now
-        (Appends (W.contents out.old) (W.contents out.new)) }
+    ensures { (text : List ℕ) → IsLearnedOf (learn_in options.now) text learned.now
+        → IsLearning (learn_in options.now) text (W.contents out.old) (W.contents out.new) result }
 {
     match learned {
-        Learned::Profile(text) => match write_whole(out, text.as_str()) {
+        Learned::Profile(text) => match write_text(text.as_str(), out) {
             Ok(()) => Ok(Conclusion::Done),
-            Err(_) => Err(Failure::Output),
+            Err(failure) => Err(failure),
         },
         Learned::BadLine(line) => {
             let end = Ok(Conclusion::Judged(Verdict::BadLine(*line)));

@@ -18,7 +18,6 @@ mod listening;
 mod loading;
 mod log;
 mod opening;
-mod output;
 mod port;
 mod rights;
 mod room;

@@ -2,19 +2,17 @@
 
 ghost use Rattle.std.specs.Prelude.{◌≡◌, ◌⊎◌, [], IfErr, IfOk, IfSome, OnOk, string_bytes};
 ghost use Rattle.std.specs.Io.KnownBytes.{Appends};
-ghost use Rattle.ll_runs.specs.declared.failure.Failure.{Failure};
+ghost use Rattle.ll_program.specs.declared.failure.Failure.{Failure};
 ghost use Rattle.ll_session.specs.Session.{AreOthers};
 ghost use Rattle.ll_wire.specs.Writing.{AppendsFront};
 ghost use Rattle.ll_commands.specs.Loading.{HasLoaded};
 ghost use Rattle.ll_commands.specs.Serving.{EndsEarly, listening};
 
 use crate::loading::load;
-use crate::output::write_text;
 use crate::port::Binds;
 use ll_calls::Tree;
 use ll_client::Shape;
-use ll_options::ServeOptions;
-use ll_runs::Failure;
+use ll_program::{Failure, ServeOptions, write_text};
 use ll_seq::Call;
 use ll_session::Party;
 use ll_walk::Gate;

@@ -3,13 +3,13 @@
 ghost use Rattle.std.specs.Prelude.{◌≡◌, ◌⊎◌, ◌≤◌, [], ◌∷◌, ◌↔◌, IsTrue, IfErr, IfSome, OnOk};
 ghost use Rattle.std.specs.List.{All};
 ghost use Rattle.ll_client.specs.Entries.{Knows};
-ghost use Rattle.ll_runs.specs.declared.failure.Failure.{Failure};
+ghost use Rattle.ll_program.specs.declared.failure.Failure.{Failure};
 ghost use Rattle.ll_session.specs.Session.{AreOthers};
 ghost use Rattle.ll_commands.specs.Loading.{HasBegun, HasLoaded, WasStopped, entry_count};
 
 use ll_calls::Tree;
 use ll_client::{Client, Shape};
-use ll_runs::Failure;
+use ll_program::Failure;
 use ll_seq::Call;
 use ll_session::{Party, make_calls};
 use ll_walk::Gate;

@@ -7,7 +7,7 @@ use crate::bounded::{Heard, Told, trouble_of};
 use crate::counts::Counts;
 use crate::trouble::Troubled;
 use ll_client::Shape;
-use ll_options::ServeOptions;
+use ll_program::ServeOptions;
 use ll_seq::Reply;
 use ll_session::{Served, Stream, Watches, reply_line};
 use ll_wire::SessionFault;

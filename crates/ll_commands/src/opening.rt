@@ -10,8 +10,8 @@ ghost use Rattle.ll_commands.specs.Opening.{MakesOne, Opens, Stops};
 ghost use Rattle.ll_commands.specs.Opening.{Comes, FailsSo, IsLoadStopped, IsRefusedThere, IsStopped, Loads, Makes};
 
 use ll_plain::Plain;
+use ll_program::Failure;
 use ll_rights::Errno;
-use ll_runs::Failure;
 use ll_seq::{Call, Reply};
 use ll_session::Setup;
 use std::alloc::Global;

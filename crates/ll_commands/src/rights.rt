@@ -5,85 +5,23 @@ ghost use Rattle.std.specs.Prelude.{string_bytes};
 ghost use Rattle.std.specs.Prelude.{None, option_to_list};
 ghost use Rattle.std.specs.Option.{option_map_or};
 ghost use Rattle.ll_wire.specs.Transcript.{Writes};
-ghost use Rattle.ll_options.specs.Options.{order_in, rights_in};
+ghost use Rattle.ll_program.specs.Options.{rights_in};
 ghost use Rattle.ll_path.specs.Path.{path_of_text};
-ghost use Rattle.ll_runs.specs.declared.failure.Failure.{Failure};
 ghost use Rattle.ll_seq.specs.Step.{client_of};
-ghost use Rattle.ll_commands.specs.Rights.{AddsRows, AreRows, HasBadWord, IsBadWord, IsOfWords, IsTable, LacksTable};
-ghost use Rattle.ll_commands.specs.Rights.{MayFail, made_path, made_paths, paths_told, run_of, target_path};
+ghost use Rattle.ll_commands.specs.Rights.{AddsRows, AreRows, IsTable, LacksTable};
+ghost use Rattle.ll_commands.specs.Rights.{MayFail, made_path, made_paths, paths_told, target_path};
 
 use crate::opening::{Opened, open_tree};
-use crate::output::write_text;
 use crate::table::row_text;
-use ll_options::{RightsOptions, RunOptions};
-use ll_path::{Path, Target, Word};
+use ll_path::{Path, Target};
 use ll_plain::Plain;
+use ll_program::{Failure, RightsOptions, TreeOptions, paths_of, setup_of, write_text};
 use ll_rules::Domain;
-use ll_runs::{Failure, setup_of};
 use ll_seq::Call;
 use ll_session::Setup;
 use ll_why::rights_on;
 use std::alloc::{AllocError, Global};
 use std::io::{Read, Write};
-
-// The path that a word spells.
-fn path_of(alloc: Global, word: &str) -> Result<Path, Failure>
-    ensures path { IfOk result (λ path. path ≡ path_of_text word.now) }
-    ensures bad { IfErr result (λ failure. failure ≡ Failure.CommandLine → IsBadWord word.now) }
-    ensures failure { IfErr result IsOfWords }
-{
-    let Ok(text) = String::from_str(alloc, word) else {
-        return Err(Failure::NoMemory);
-    };
-    let word = match Word::new(text) {
-        Ok(word) => word,
-        Err(text) => {
-            drop(text);
-            return Err(Failure::CommandLine);
-        }
-    };
-    match Path::parse(word) {
-        Ok(path) => Ok(path),
-        Err((word, _)) => {
-            drop(word);
-            Err(Failure::CommandLine)
-        }
-    }
-}
-
-// The paths that the words spell.
-fn paths_of(alloc: Global, words: &[&str]) -> Result<Vec<Path>, Failure>
-    ensures paths { IfOk result (λ paths. paths.items ≡ map path_of_text (map (λ w. w.now) words.now)) }
-    ensures bad { IfErr result (λ failure. failure ≡ Failure.CommandLine → HasBadWord (map (λ w. w.now) words.now)) }
-    ensures failure { IfErr result IsOfWords }
-{
-    let mut paths = Vec::new(alloc);
-    for word in words {
-        let path = match path_of(alloc, word) {
-            Ok(path) => path,
-            Err(failure) => return Err(failure),
-        };
-        match push_path(&mut paths, path) {
-            Ok(()) => {}
-            Err(failure) => return Err(failure),
-        }
-    }
-    Ok(paths)
-}
-
-// The path comes behind the others.
-fn push_path(paths: &mut Vec<Path>, path: Path) -> Result<(), Failure>
-    ensures ok { OnOk result (paths.new.items ≡ paths.old.items ++ path ∷ []) }
-    ensures failure { IfErr result (λ failure. failure ≡ Failure.NoMemory) }
-{
-    match paths.push(path) {
-        Ok(()) => Ok(()),
-        Err(refused) => {
-            drop(refused);
-            Err(Failure::NoMemory)
-        }
-    }
-}
 
 fn target_path(target: &Target) -> Option<&Path>
     ensures { option_map (λ p. p.now) result ≡ target_path target.now }
@@ -213,22 +151,6 @@ fn rows_told(
     }
 }
 
-// The run whose first client is the one that is asked about.
-fn run_of<'a>(options: &RightsOptions<'a>) -> RunOptions<'a>
-    ensures { order_in result ≡ run_of (rights_in options.now) }
-{
-    RunOptions {
-        script: "-",
-        nodes: options.nodes,
-        level: None,
-        history: 1,
-        policy: Some(options.policy),
-        profile: Some(options.profile),
-        save: None,
-        strict: false,
-    }
-}
-
 /// The table that the options ask for, by the policy in this file.
 pub fn rights_table<R: Read>(
     alloc: Global,
@@ -244,7 +166,11 @@ pub fn rights_table<R: Read>(
         Ok(paths) => paths,
         Err(failure) => return Err(failure),
     };
-    let setup = match setup_of(alloc, &run_of(options), file) {
+    let setup = match setup_of(
+        alloc,
+        &TreeOptions::of_profile(options.policy, options.profile, options.nodes),
+        file,
+    ) {
         Ok(setup) => setup,
         Err(failure) => return Err(failure),
     };

@@ -4,36 +4,21 @@ ghost use Rattle.std.specs.Prelude.{◌≡◌, ℕ, List, IfErr, IfOk, IfSome, O
 ghost use Rattle.std.specs.Io.KnownBytes.{Appends};
 ghost use Rattle.std.specs.List.{All};
 ghost use Rattle.ll_wire.specs.Entries.{IsEntry};
-ghost use Rattle.ll_options.specs.Options.{order_in, served_in};
-ghost use Rattle.ll_commands.specs.Serving.{IsDone, IsServed, MayFail, MayStop, listening, run_of};
+ghost use Rattle.ll_program.specs.Options.{served_in};
+ghost use Rattle.ll_commands.specs.Serving.{IsDone, IsServed, MayFail, MayStop, listening};
 
 use crate::hosting::host_on;
 use crate::log::Log;
 use crate::port::Binds;
-use ll_options::{RunOptions, ServeOptions};
-use ll_runs::{Failure, Recorded, begin_record, header_of, save_history, setup_of};
+use ll_program::{
+    Failure, Recorded, ServeOptions, begin_record, header_of, save_history, setup_of,
+};
 use ll_session::{Chronicle, NoKeeper, Setup};
 use ll_wire::Destination;
 use std::alloc::Global;
 use std::io::{Read, Write};
 use std::sync::Wait;
 use std::thread::Threads;
-
-// The run that sets up the same tree.
-fn run_of<'a>(options: &ServeOptions<'a>) -> RunOptions<'a>
-    ensures { order_in result ≡ run_of (served_in options.now) }
-{
-    RunOptions {
-        script: "",
-        nodes: options.nodes,
-        level: options.level,
-        history: options.history,
-        policy: options.policy,
-        profile: options.profile,
-        save: options.save,
-        strict: false,
-    }
-}
 
 // Serves connections on a tree that is set up so. What is left is its history, and the record that was kept of it.
 fn host<H: Threads + Wait + Sync, B: Binds, D: Write + Drop + Send, W: Write, E: Write + Send>(
@@ -100,7 +85,7 @@ pub fn serve<
         × MayFail (served_in options.now) text (W.contents out.old) (W.contents out.new)
         (F.contents file.old) (F.contents file.new) failure) }
 {
-    let setup = match setup_of(alloc, &run_of(options), policy) {
+    let setup = match setup_of(alloc, &options.tree(), policy) {
         Ok(setup) => setup,
         Err(failure) => return Err(failure),
     };

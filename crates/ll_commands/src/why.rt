@@ -4,16 +4,16 @@ ghost use Rattle.std.specs.Prelude.{◌≡◌, ◌≤◌, ◌⊎◌, ℕ, List, 
 ghost use Rattle.std.specs.Io.KnownBytes.{Appends};
 ghost use Rattle.ll_rights.specs.declared.limits.TheConstants.{TREE_NODES};
 ghost use Rattle.ll_wire.specs.Transcript.{Writes};
-ghost use Rattle.ll_options.specs.Options.{order_in, why_in};
+ghost use Rattle.ll_program.specs.Options.{tree_in, why_in};
 ghost use Rattle.ll_wire.specs.Writing.{AppendsFront};
 ghost use Rattle.ll_commands.specs.Why.{CommandAnswers, CommandFails, EntryAnswers, EntryFails, IsAnswer};
-ghost use Rattle.ll_commands.specs.Why.{IsToldSo, LacksAnswer, MayFail, answer_text, conclusion_of, run_by};
+ghost use Rattle.ll_commands.specs.Why.{IsToldSo, LacksAnswer, MayFail, answer_text, conclusion_of};
 
 use crate::commands::{call_of, told_of_setup};
-use crate::output::write_text;
 use ll_audit::Verdict;
-use ll_options::{Question, RunOptions, WhyOptions};
-use ll_runs::{Conclusion, Failure, read_text, setup_of};
+use ll_program::{
+    Conclusion, Failure, Question, TreeOptions, WhyOptions, read_text, setup_of, write_text,
+};
 use ll_why::{HistoryWhy, why_entry};
 use std::alloc::Global;
 use std::io::{Read, Write};
@@ -46,41 +46,23 @@ fn answer_of_entry<R: Read>(alloc: Global, file: &mut R, number: u64) -> Result<
     }
 }
 
-// The run whose first client makes the command.
-fn run_by<'a>(policy: &'a str, profile: &'a str, nodes: usize) -> RunOptions<'a>
-    requires some { 1 ≤ nodes }
-    requires most { nodes ≤ TREE_NODES }
-    ensures { order_in result ≡ run_by policy.entry.now profile.entry.now nodes }
-{
-    RunOptions {
-        script: "-",
-        nodes,
-        level: None,
-        history: 1,
-        policy: Some(policy),
-        profile: Some(profile),
-        save: None,
-        strict: false,
-    }
-}
-
 // Of the command that the word spells, by this run's policy.
 fn answer_of_command<R: Read>(
     alloc: Global,
-    run: &RunOptions,
+    tree: &TreeOptions,
     word: &str,
     file: &mut R,
 ) -> Result<Answer, Failure>
     ensures told { IfOk result (λ answer. (text : List ℕ) × IfSome (R.remaining file.old) (λ told. text ≡ told)
-        × CommandAnswers (order_in run.now) word.now text answer) }
+        × CommandAnswers (tree_in tree.now) word.now text answer) }
     ensures failure { IfErr result (λ failure. (text : List ℕ) × IfSome (R.remaining file.old) (λ told. text ≡ told)
-        × CommandFails (order_in run.now) word.now text failure) }
+        × CommandFails (tree_in tree.now) word.now text failure) }
 {
     let call = match call_of(alloc, word) {
         Ok(call) => call,
         Err(failure) => return Err(failure),
     };
-    let setup = match setup_of(alloc, run, file) {
+    let setup = match setup_of(alloc, tree, file) {
         Ok(setup) => setup,
         Err(failure) => return Err(failure),
     };
@@ -105,7 +87,8 @@ pub fn answer_of<R: Read>(
         None => Err(Failure::CommandLine),
         Some(Question::Entry(_, number)) => answer_of_entry(alloc, file, number),
         Some(Question::Command(policy, profile, word)) => {
-            answer_of_command(alloc, &run_by(policy, profile, options.nodes), word, file)
+            let tree = TreeOptions::of_profile(policy, profile, options.nodes);
+            answer_of_command(alloc, &tree, word, file)
         }
     }
 }

@@ -1,8 +1,8 @@
 //! Policies: the faults of bad documents, and the calls of good ones.
 
 use ll_commands::{Confinement, json_text};
-use ll_options::{Denied, ExportOptions, Form};
 use ll_policy::{Policy, PolicyFault};
+use ll_program::{Denied, ExportOptions, Form};
 use ll_rights::{Access, Kind};
 use ll_seq::Call;
 use std::alloc::{AllocError, Global};

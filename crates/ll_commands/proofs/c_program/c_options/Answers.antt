@@ -2,7 +2,7 @@ use Rattle.std.proofs.Common.{◌≡◌, ◌∷◌, [], ap, ap₂, codes, ◌∙
 use Rattle.std.specs.Prelude.{unwrap_or}
 use Rattle.std.specs.List.{concat}
 use Rattle.std.proofs.lemmas.Result.{IfOk-weaker}
-use Rattle.ll_options.specs.Options.{nothing_denied}
+use Rattle.ll_program.specs.Options.{nothing_denied}
 use Rattle.ll_commands.specs.CProgram.{c_denied, c_option}
 use Rattle.ll_commands.proofs.c_program.c_options.Goals as goal
 

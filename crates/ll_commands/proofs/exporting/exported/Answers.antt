@@ -1,5 +1,5 @@
 use Rattle.std.proofs.Common.{◌∙◌, inl, sym}
-use Rattle.ll_options.specs.Options.{exported_in}
+use Rattle.ll_program.specs.Options.{exported_in}
 use Rattle.ll_commands.specs.declared.confinement.Confinement.{Confinement}
 use Rattle.ll_commands.specs.Export.{IsOfPolicy}
 use Rattle.ll_commands.proofs.ExportFailing.{by_flaw, by_policy, by_reading, left, no_form, same_text}

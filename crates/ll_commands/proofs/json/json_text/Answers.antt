@@ -1,7 +1,7 @@
 use Rattle.std.proofs.Common.{◌≡◌, ◌∷◌, [], codes, ap, ap₂, ◌∙◌}
 use Rattle.std.specs.List.{concat, join_by}
 use Rattle.std.proofs.lemmas.Result.{IfOk-weaker}
-use Rattle.ll_options.specs.Options.{exported_in}
+use Rattle.ll_program.specs.Options.{exported_in}
 use Rattle.ll_commands.specs.Json.{json_head, json_layer, json_options, json_text}
 use Rattle.ll_commands.proofs.json.json_text.Goals as goal
 

@@ -1,9 +1,9 @@
 use Rattle.std.proofs.Common.{List, ℕ, map, ap, subst, ◌∙◌}
 use Rattle.std.specs.Borrow.{Bor}
 use Rattle.ll_path.specs.Path.{path_of_text}
-use Rattle.ll_options.specs.Options.{RunOrder, rights_in}
-use Rattle.ll_runs.specs.Policy.{IsSetup, Lacks}
-use Rattle.ll_commands.specs.Rights.{HasBadWord}
+use Rattle.ll_program.specs.Options.{TreeOrder, rights_in}
+use Rattle.ll_program.specs.Paths.{HasBadWord}
+use Rattle.ll_program.specs.Policy.{IsSetup, Lacks}
 use Rattle.ll_commands.proofs.Rows.{by_opening, by_setup, by_words, left}
 use Rattle.ll_commands.proofs.rights.rights_table.Goals as goal
 
@@ -23,7 +23,7 @@ returns-in-Err-setup_of-clause-failure g c =
       l.0,
       l.1,
       by_setup (rights_in c.args.options.now) l.0 c.in-Err-setup_of.failure
-          (subst (λ (o : RunOrder). Lacks o l.0 c.in-Err-setup_of.failure) c.run_of.ensures l.2),
+          (subst (λ (o : TreeOrder). Lacks o l.0 c.in-Err-setup_of.failure) c.of_profile.ensures l.2),
     )
 
 pub returns-in-Err-open_tree-clause-failure : goal.returns-in-Err-open_tree-clause-failure
@@ -32,7 +32,7 @@ returns-in-Err-open_tree-clause-failure g c =
       s.0,
       s.1,
       by_opening (rights_in c.args.options.now) s.0 c.in-Ok-setup_of.setup c.in-Err-open_tree.failure
-          (subst (λ (o : RunOrder). IsSetup o s.0 c.in-Ok-setup_of.setup) c.run_of.ensures s.2)
+          (subst (λ (o : TreeOrder). IsSetup o s.0 c.in-Ok-setup_of.setup) c.of_profile.ensures s.2)
           c.in-Err-open_tree.ensures.failure,
     )
 
@@ -48,7 +48,7 @@ returns-in-Ok-rows_told-clause-table g c =
         c.in-Ok-setup_of.setup,
         c.in-Ok-open_tree.opened.client,
         c.in-Ok-open_tree.opened.tree,
-        subst (λ (o : RunOrder). IsSetup o s.0 c.in-Ok-setup_of.setup) c.run_of.ensures s.2,
+        subst (λ (o : TreeOrder). IsSetup o s.0 c.in-Ok-setup_of.setup) c.of_profile.ensures s.2,
         c.in-Ok-open_tree.ensures.ok,
         c.in-Ok-rows_told.ensures order.paths told,
       ),

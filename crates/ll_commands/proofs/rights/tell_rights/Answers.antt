@@ -1,6 +1,6 @@
 use Rattle.std.specs.Prelude.{refl}
 use Rattle.std.proofs.Common.{inl, subst, sym}
-use Rattle.ll_options.specs.Options.{rights_in}
+use Rattle.ll_program.specs.Options.{rights_in}
 use Rattle.ll_commands.specs.Rights.{IsTable, LacksTable}
 use Rattle.ll_commands.proofs.Written.{broken, written}
 use Rattle.ll_commands.proofs.rights.tell_rights.Goals as goal

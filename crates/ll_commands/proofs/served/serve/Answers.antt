@@ -7,13 +7,13 @@ use Rattle.ll_commands.proofs.served.serve.Goals as goal
 
 pub returns-in-Err-clause-failure : goal.returns-in-Err-clause-failure
 returns-in-Err-clause-failure g c =
-    unset c.args.options.now c.run_of.result c.run_of.ensures (g.P.Read.remaining c.args.policy.now)
+    unset c.args.options.now c.tree.result c.tree.ensures (g.P.Read.remaining c.args.policy.now)
     (g.W.Write.contents c.args.out.now) (g.F.Destination.contents c.args.file.now) c.in-Err.failure
     c.in-Err.ensures.named c.in-Err.ensures.failure
 
 pub returns-in-Err-host-clause-failure : goal.returns-in-Err-host-clause-failure
 returns-in-Err-host-clause-failure g c =
-    unserved c.args.options.now c.run_of.result c.run_of.ensures (g.P.Read.remaining c.args.policy.now) c.in-Ok.setup
+    unserved c.args.options.now c.tree.result c.tree.ensures (g.P.Read.remaining c.args.policy.now) c.in-Ok.setup
     c.in-Ok.ensures.setup (g.W.Write.contents c.args.out.now) (g.W.Write.contents c.host.new.out)
     (g.F.Destination.contents c.args.file.now) (g.F.Destination.contents c.begin_record-record.new.file)
     c.in-Err-host.failure c.in-Err-host.ensures.failure c.begin_record-record.ensures.same
@@ -21,7 +21,7 @@ returns-in-Err-host-clause-failure g c =
 pub returns-then-is_none-clause-done : goal.returns-then-is_none-clause-done
 returns-then-is_none-clause-done g c =
     let h = c.in-Ok-host in
-    done c.args.options.now c.run_of.result c.run_of.ensures (g.P.Read.remaining c.args.policy.now) c.in-Ok.setup
+    done c.args.options.now c.tree.result c.tree.ensures (g.P.Read.remaining c.args.policy.now) c.in-Ok.setup
     c.in-Ok.ensures.setup (g.W.Write.contents c.args.out.now) (g.W.Write.contents c.host.new.out)
     (g.F.Destination.contents c.args.file.now) (g.F.Destination.contents c.begin_record-record.new.file) h.ensures.told
     (g.F.Destination.blank c.args.file.now) h.it.history.entries h.ensures.served c.if-is_none.ensures
@@ -32,7 +32,7 @@ returns-clause-done g c =
     let h = c.in-Ok-host in
     let entries = h.it.history.entries in
     let new = g.F.Destination.contents c.save_history.new.file in
-    saved c.args.options.now c.run_of.result c.run_of.ensures (g.P.Read.remaining c.args.policy.now) c.in-Ok.setup
+    saved c.args.options.now c.tree.result c.tree.ensures (g.P.Read.remaining c.args.policy.now) c.in-Ok.setup
     c.in-Ok.ensures.setup (g.W.Write.contents c.args.out.now) (g.W.Write.contents c.host.new.out)
     (g.F.Destination.contents c.args.file.now) new h.ensures.told (g.F.Destination.blank c.args.file.now) entries
     h.ensures.served c.save_history.result c.header_of-header.result c.if-is_none.ensures
@@ -45,7 +45,7 @@ pub returns-clause-failure : goal.returns-clause-failure
 returns-clause-failure g c =
     let h = c.in-Ok-host in
     let new = g.F.Destination.contents c.save_history.new.file in
-    unsaved c.args.options.now c.run_of.result c.run_of.ensures (g.P.Read.remaining c.args.policy.now) c.in-Ok.setup
+    unsaved c.args.options.now c.tree.result c.tree.ensures (g.P.Read.remaining c.args.policy.now) c.in-Ok.setup
     c.in-Ok.ensures.setup (g.W.Write.contents c.args.out.now) (g.W.Write.contents c.host.new.out)
     (g.F.Destination.contents c.args.file.now) new h.ensures.told c.save_history.result c.if-is_none.ensures
     c.save_history.ensures.failure

@@ -1,9 +1,9 @@
 use Rattle.std.proofs.Common.{Option, Some, ap, sym, subst, refl, inr, ◌∙◌}
-use Rattle.std.proofs.lemmas.Result.{IfErr-weaker}
-use Rattle.ll_options.specs.Options.{Asked, RunOrder, question_of}
-use Rattle.ll_options.specs.declared.why.Question.{Question}
-use Rattle.ll_runs.specs.declared.failure.Failure.TheVariants.{CommandLine}
-use Rattle.ll_commands.specs.Why.{CommandFails, Fails}
+use Rattle.std.proofs.lemmas.Result.{IfErr-weaker, IfOk-weaker}
+use Rattle.ll_program.specs.Options.{Asked, TreeOrder, question_of}
+use Rattle.ll_program.specs.declared.why.Question.{Question}
+use Rattle.ll_program.specs.declared.failure.Failure.TheVariants.{CommandLine}
+use Rattle.ll_commands.specs.Why.{Answers, CommandAnswers, CommandFails, Fails}
 use Rattle.ll_commands.proofs.Rows.{left}
 use Rattle.ll_commands.proofs.why.answer_of.Goals as goal
 
@@ -23,5 +23,18 @@ returns-in-Some-Command-clause-failure g c =
       h.0,
       h.1,
       subst (λ (a : Option Asked). Fails nodes a h.0 failure) asked
-          (subst (λ (run : RunOrder). CommandFails run word h.0 failure) c.run_by.ensures h.2),
+          (subst (λ (run : TreeOrder). CommandFails run word h.0 failure) c.of_profile-tree.ensures h.2),
     )) c.answer_of_command.ensures.failure
+
+pub returns-in-Some-Command-clause-told : goal.returns-in-Some-Command-clause-told
+returns-in-Some-Command-clause-told g c =
+    let nodes = c.args.options.now.nodes in
+    let word = c.in-Some-Command.word.now in
+    let asked = sym (ap (λ (q : Question). Some (question_of q)) c.in-Some-Command.field-0-is)
+    ∙ c.in-Some-Command.ensures in
+    IfOk-weaker c.answer_of_command.result _ _ (λ answer h. (
+      h.0,
+      h.1,
+      subst (λ (a : Option Asked). Answers nodes a h.0 answer) asked
+          (subst (λ (tree : TreeOrder). CommandAnswers tree word h.0 answer) c.of_profile-tree.ensures h.2),
+    )) c.answer_of_command.ensures.told

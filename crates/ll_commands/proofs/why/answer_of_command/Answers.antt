@@ -1,4 +1,4 @@
-use Rattle.ll_options.specs.Options.{order_in}
+use Rattle.ll_program.specs.Options.{tree_in}
 use Rattle.ll_commands.proofs.Rows.{left}
 use Rattle.ll_commands.proofs.Failing.{by_opening, by_word}
 use Rattle.ll_commands.proofs.why.answer_of_command.Goals as goal
@@ -8,7 +8,7 @@ returns-in-Err-clause-failure g c =
     let t = left (g.R.Read.remaining c.args.file.now) in (
       t.0,
       t.1,
-      by_word (order_in c.args.run.now) c.args.word.now t.0 c.in-Err.failure c.in-Err.ensures.failure
+      by_word (tree_in c.args.tree.now) c.args.word.now t.0 c.in-Err.failure c.in-Err.ensures.failure
           c.in-Err.ensures.bad,
     )
 
@@ -35,6 +35,6 @@ returns-clause-failure g c =
     let s = c.in-Ok-setup_of.ensures.setup in (
       s.0,
       s.1,
-      by_opening (order_in c.args.run.now) c.args.word.now s.0 c.in-Ok-setup_of.setup c.in-Err-told_of_setup.failure s.2
+      by_opening (tree_in c.args.tree.now) c.args.word.now s.0 c.in-Ok-setup_of.setup c.in-Err-told_of_setup.failure s.2
           c.in-Err-told_of_setup.ensures.failure,
     )

@@ -1,6 +1,6 @@
 use Rattle.std.specs.Prelude.{Err, refl}
 use Rattle.std.proofs.Common.{inl}
-use Rattle.ll_options.specs.Options.{asked_by, why_in}
+use Rattle.ll_program.specs.Options.{asked_by, why_in}
 use Rattle.ll_commands.specs.Why.{IsTold, LacksAnswer, answer_text}
 use Rattle.ll_commands.proofs.Failing.{lacks_memory}
 use Rattle.ll_commands.proofs.Written.{starved_or_broken}

@@ -1,0 +1,17 @@
+use Rattle.std.proofs.Common.{inl}
+use Rattle.ll_program.specs.Learn.{profile_name}
+use Rattle.ll_program.specs.Options.{learn_in}
+use Rattle.ll_commands.proofs.Lessons.{by_file, nameless}
+use Rattle.ll_commands.proofs.Rows.{left}
+use Rattle.ll_commands.proofs.learn.learn_history.Goals as goal
+
+pub returns-then-is_none-clause-failure : goal.returns-then-is_none-clause-failure
+returns-then-is_none-clause-failure g c =
+    let t = left (g.R.Read.remaining c.args.file.now) in
+    let name = profile_name (learn_in c.args.options.now) in
+    (t.0, t.1, inl (nameless c.profile_name.result name c.profile_name.ensures c.if-is_none.ensures))
+
+pub returns-in-Err-clause-failure : goal.returns-in-Err-clause-failure
+returns-in-Err-clause-failure g c =
+    let t = left (g.R.Read.remaining c.args.file.now) in
+    (t.0, t.1, by_file (learn_in c.args.options.now) t.0 c.in-Err.failure c.in-Err.ensures.failure)
