@@ -8,20 +8,20 @@ use Rattle.std.proofs.lemmas.List.{map-append, take_more}
 use Rattle.clap.specs.Words.{HasKind, Kinds, kind_of}
 use Rattle.clap.specs.declared.error.Error.{Error}
 use Rattle.ll_wire.specs.Transcript.{Writes}
-use Rattle.ll_options.specs.Options.{CheckOrder, ExportOrder}
-use Rattle.ll_runs.specs.declared.checked.Checked.{Checked}
-use Rattle.ll_runs.specs.declared.checked.Checked.TheVariants as checked
-use Rattle.ll_runs.specs.declared.conclusion.Conclusion.{Conclusion}
-use Rattle.ll_runs.specs.declared.failure.Failure.{Failure}
-use Rattle.ll_runs.specs.declared.failure.Failure.TheVariants as failure
-use Rattle.ll_runs.specs.Failure.{failure_by}
-use Rattle.ll_runs.specs.Sources.{text_in}
+use Rattle.ll_program.specs.Options.{CheckOrder, ExportOrder}
+use Rattle.ll_program.specs.declared.checked.Checked.{Checked}
+use Rattle.ll_program.specs.declared.checked.Checked.TheVariants as checked
+use Rattle.ll_program.specs.declared.conclusion.Conclusion.{Conclusion}
+use Rattle.ll_program.specs.declared.failure.Failure.{Failure}
+use Rattle.ll_program.specs.declared.failure.Failure.TheVariants as failure
+use Rattle.ll_program.specs.Failure.{failure_by}
+use Rattle.ll_program.specs.Sources.{text_in}
 use Rattle.ll_check.specs.declared.checks.NamedText.{NamedText}
 use Rattle.ll_check.specs.Ends.{EndsCheck, FailsCheck, IsCheckedUnder, IsPolicyText, IsSource}
 use Rattle.ll_check.specs.Files.{IsCheck, MayFail, source_of}
 use Rattle.ll_check.proofs.Told.{each_more}
 use Rattle.ll_commands.specs.Export.{IsExport, ended_by}
-use Rattle.landtree.specs.Checked.{EndsChecked, check_of}
+use Rattle.landtree.specs.Checked.{EndsChecked, IsExported, check_of}
 use Rattle.landtree.proofs.Starved.{ran_out}
 
 module _ (texts : Option (List ℕ) → Option (List ℕ)) where
@@ -109,3 +109,20 @@ module _ (texts : Option (List ℕ) → Option (List ℕ)) where
       subst (λ (x : Conclusion). EndsChecked texts order (Ok x)) (sym e) (policy, known, is, (λ same. absurd cc))
   exported order policy told checked.BadLine Q (Ok it) so known is e done =
       subst (λ (x : Conclusion). EndsChecked texts order (Ok x)) (sym e) (policy, known, is, (λ same. absurd cc))
+
+  -- an export that is done has a text
+  pub export_done : {A : Type 0} (order : ExportOrder) (left : Option (List ℕ)) (Q : List ℕ → Type 0)
+      (r : Result A Failure) → left ≡ texts (Some order.policy)
+      → OnOk r ((text : List ℕ) × IfSome left (λ told. text ≡ told)
+      × ((written : List ℕ) × IsExport order text written × Q written))
+      → OnOk r ((policy written : List ℕ) × IfSome (texts (Some order.policy)) (λ told. policy ≡ told)
+      × IsExport order policy written)
+  export_done order left Q (Ok it) read done =
+      (done.0, done.2.0, subst (λ o. IfSome o (λ told. done.0 ≡ told)) read done.1, done.2.1)
+  export_done order left Q (Err failure) read done = tt
+
+  -- one whose profile was checked has one too
+  pub checked_exported : (order : ExportOrder) (r : Result Conclusion Failure) → EndsChecked texts order r
+      → IsExported texts order r
+  checked_exported order r ends same =
+      let it = subst (EndsChecked texts order) same ends in (it.0, it.1, it.2, it.4)

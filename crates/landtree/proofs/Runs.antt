@@ -1,14 +1,14 @@
 -- How runs end.
 use Rattle.std.proofs.Common.{◌≡◌, ◌∙◌, ℕ, List, [], Option, None, Some, Bor, Result, Ok, Err, subst, ap, inl, inr}
 use Rattle.std.specs.Prelude.{IfErr, IfOk, IfSome, option_map, unwrap_or}
-use Rattle.ll_options.specs.Options.{RunOrder}
-use Rattle.ll_runs.specs.Policy.{EndsRun, IsRun, MayFail, profile_of}
-use Rattle.ll_runs.specs.Failure.{failure_of}
-use Rattle.ll_runs.specs.Sources.{named, text_in}
-use Rattle.ll_runs.specs.declared.conclusion.Conclusion.{Conclusion}
-use Rattle.ll_runs.specs.declared.failure.Failure.{Failure}
-use Rattle.ll_runs.specs.declared.failure.Failure.TheVariants.{CommandLine, Policy, Opening, File, Output, Socket}
-use Rattle.ll_runs.specs.declared.failure.Failure.TheVariants.{NoMemory}
+use Rattle.ll_program.specs.Options.{RunOrder}
+use Rattle.ll_program.specs.Policy.{EndsRun, IsRun, MayFail, profile_of}
+use Rattle.ll_program.specs.Failure.{failure_of}
+use Rattle.ll_program.specs.Sources.{named, text_in}
+use Rattle.ll_program.specs.declared.conclusion.Conclusion.{Conclusion}
+use Rattle.ll_program.specs.declared.failure.Failure.{Failure}
+use Rattle.ll_program.specs.declared.failure.Failure.TheVariants.{CommandLine, Policy, Opening, File, Output, Socket}
+use Rattle.ll_program.specs.declared.failure.Failure.TheVariants.{NoMemory}
 use Rattle.ll_session.specs.declared.fault.RunFault.{RunFault}
 use Rattle.ll_session.specs.declared.fault.RunFault.TheVariants as run
 use Rattle.ll_wire.specs.declared.fault.SessionFault.TheVariants as fault

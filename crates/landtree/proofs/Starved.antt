@@ -4,11 +4,11 @@ use Rattle.std.proofs.Common.{inl, inr, subst, sym}
 use Rattle.clap.specs.Words.{HasKind, IsAmong, Kinds, kind_of}
 use Rattle.clap.specs.declared.error.Error.{Error}
 use Rattle.clap.specs.declared.error.kind.ErrorKind.{ErrorKind}
-use Rattle.ll_options.specs.Options.{Asked, RightsOrder, WhyOrder, asked_by, fits_why, of_command, of_entry}
-use Rattle.ll_runs.specs.Failure.{failure_by}
-use Rattle.ll_runs.specs.declared.conclusion.Conclusion.{Conclusion}
-use Rattle.ll_runs.specs.declared.failure.Failure.{Failure}
-use Rattle.ll_runs.specs.declared.failure.Failure.TheVariants.{NoMemory}
+use Rattle.ll_program.specs.Options.{Asked, RightsOrder, WhyOrder, asked_by, fits_why, of_command, of_entry}
+use Rattle.ll_program.specs.Failure.{failure_by}
+use Rattle.ll_program.specs.declared.conclusion.Conclusion.{Conclusion}
+use Rattle.ll_program.specs.declared.failure.Failure.{Failure}
+use Rattle.ll_program.specs.declared.failure.Failure.TheVariants.{NoMemory}
 use Rattle.ll_commands.specs.Rights.{EndsRights}
 use Rattle.ll_commands.specs.Why.{EndsWhy, Fails, file_asked}
 use Rattle.ll_commands.proofs.Rows.{left}

@@ -1,10 +1,10 @@
 -- What is told of a file that the words name.
 use Rattle.std.specs.Prelude.{◌≡◌, ℕ, List, IfErr, IfOk, IfSome, OnOk, Option, Some, Result, Ok, Err}
 use Rattle.std.proofs.Common.{subst}
-use Rattle.ll_options.specs.Options.{RightsOrder, WhyOrder, asked_by}
-use Rattle.ll_runs.specs.declared.conclusion.Conclusion.{Conclusion}
-use Rattle.ll_runs.specs.declared.conclusion.Conclusion.TheVariants.{Done}
-use Rattle.ll_runs.specs.declared.failure.Failure.{Failure}
+use Rattle.ll_program.specs.Options.{RightsOrder, WhyOrder, asked_by}
+use Rattle.ll_program.specs.declared.conclusion.Conclusion.{Conclusion}
+use Rattle.ll_program.specs.declared.conclusion.Conclusion.TheVariants.{Done}
+use Rattle.ll_program.specs.declared.failure.Failure.{Failure}
 use Rattle.ll_wire.specs.Transcript.{Writes}
 use Rattle.ll_commands.specs.Rights as rights
 use Rattle.ll_commands.specs.Rights.{EndsRights, IsTable}

@@ -1,11 +1,11 @@
 -- How an export ends whose profile must pass checks. own
 use Rattle.std.specs.Prelude.{⊤, ◌≡◌, ◌≢◌, ℕ, false, List, Option, Some, None, Result, Ok, Err}
 use Rattle.ll_rights.specs.declared.limits.TheConstants.{TREE_NODES}
-use Rattle.ll_options.specs.Options.{CheckOrder, ExportOrder}
-use Rattle.ll_runs.specs.declared.conclusion.Conclusion.{Conclusion}
-use Rattle.ll_runs.specs.declared.conclusion.Conclusion.TheVariants.{Checked, Done, Judged, Stopped}
-use Rattle.ll_runs.specs.declared.checked.Checked.TheVariants.{Passed}
-use Rattle.ll_runs.specs.declared.failure.Failure.{Failure}
+use Rattle.ll_program.specs.Options.{CheckOrder, ExportOrder}
+use Rattle.ll_program.specs.declared.conclusion.Conclusion.{Conclusion}
+use Rattle.ll_program.specs.declared.conclusion.Conclusion.TheVariants.{Checked, Done, Judged, Stopped}
+use Rattle.ll_program.specs.declared.checked.Checked.TheVariants.{Passed}
+use Rattle.ll_program.specs.declared.failure.Failure.{Failure}
 use Rattle.ll_check.specs.Ends.{IsCheckedUnder, IsPolicyText}
 use Rattle.ll_commands.specs.Export.{IsExport}
 
@@ -33,3 +33,8 @@ EndsChecked texts order (Ok (Checked end)) =
     (policy : List ℕ) × IsPolicyText texts (Some order.policy) policy
     × IsCheckedUnder texts (check_of order) policy end × (end ≢ Passed)
 EndsChecked texts order (Err failure) = ⊤
+
+-- an export that is done has a text, of the policy that is named
+abbrev pub IsExported : (texts : Option (List ℕ) → Option (List ℕ)) → ExportOrder → Result Conclusion Failure → Type 0
+IsExported texts order result = result ≡ Ok Done → (policy written : List ℕ)
+    × IsPolicyText texts (Some order.policy) policy × IsExport order policy written

@@ -1,25 +1,26 @@
 //! `check` and `export`, over the files that their words name.
 
-ghost use Rattle.std.specs.Prelude.{◌≡◌, ◌⊎◌, ℕ, true, false, List, Option, None, Some, Err, IfErr, IfOk, IfSome};
+ghost use Rattle.std.specs.Prelude.{◌≡◌, ◌⊎◌, ℕ, true, false, List, Option, None, Some, Err, IfErr, IfOk, IfSome, OnOk};
 ghost use Rattle.std.specs.Prelude.{map, option_map};
 ghost use Rattle.std.specs.List.{AllZip};
-ghost use Rattle.ll_runs.specs.Sources.{named};
-ghost use Rattle.ll_options.specs.Options.{checked_in, exported_in, fits_check, fits_export};
-ghost use Rattle.ll_options.specs.Options.{is_checked};
-ghost use Rattle.ll_runs.specs.Failure.{EndsExport};
+ghost use Rattle.ll_program.specs.Sources.{named};
+ghost use Rattle.ll_program.specs.Options.{checked_in, exported_in, fits_check, fits_export};
+ghost use Rattle.ll_program.specs.Options.{is_checked};
+ghost use Rattle.ll_program.specs.Failure.{EndsExport};
 ghost use Rattle.ll_check.specs.Ends.{EndsCheck, FailsCheck, IsCheckedUnder, IsPolicyText, IsSource};
 ghost use Rattle.ll_check.specs.Files.{source_of};
-ghost use Rattle.landtree.specs.Checked.{EndsChecked, check_of};
-ghost use Rattle.ll_runs.specs.Failure.{IsOfExport};
+ghost use Rattle.landtree.specs.Checked.{EndsChecked, IsExported, check_of};
+ghost use Rattle.ll_program.specs.Failure.{IsOfExport};
 ghost use Rattle.ll_commands.specs.Export as exports;
 
 use crate::hints::Hints;
 use crate::misfits::Misfit;
 use ll_check::{CheckInput, NamedText, check};
 use ll_commands::{export, export_checked};
-use ll_options::{CheckOptions, ExportOptions};
+use ll_program::{
+    CheckOptions, Checked, Conclusion, ExportOptions, Failure, Late, Sources, named, read_text,
+};
 use ll_rights::limits::TREE_NODES;
-use ll_runs::{Checked, Conclusion, Failure, Late, Sources, named, read_text};
 use std::sync::Wait;
 
 // The whole text of this file.
@@ -40,8 +41,8 @@ fn text_of<S: Sources>(
     text
 }
 
-// The text of the policy that is named, if one is.
-fn policy_text<S: Sources>(
+/// The text of the policy that is named, if one is.
+pub(crate) fn policy_text<S: Sources>(
     rt: &HostRuntime,
     sources: &S,
     policy: Option<&str>,
@@ -71,8 +72,8 @@ fn named_text<'a, S: Sources>(
     Ok(NamedText { name, text })
 }
 
-// The files of checks of these names.
-fn texts_of<'a, S: Sources>(
+/// The files of checks of these names.
+pub(crate) fn texts_of<'a, S: Sources>(
     rt: &HostRuntime,
     sources: &S,
     names: &[&'a str],
@@ -160,6 +161,9 @@ fn export_file<S: Sources>(
     options: &ExportOptions,
     hints: &mut Hints,
 ) -> Result<(), Failure>
+    ensures done { OnOk result ((policy written : List ℕ)
+        × IsPolicyText (S.texts sources.now) (Some (exported_in options.now).policy) policy
+        × exports.IsExport (exported_in options.now) policy written) }
     ensures told { IfErr result (λ failure. (text : List ℕ)
         × IfSome (S.texts sources.now (Some (exported_in options.now).policy)) (λ told. text ≡ told)
         × exports.MayFail (exported_in options.now) text failure) }
@@ -263,6 +267,8 @@ pub fn export_options<S: Sources + Wait>(
     ensures unfit { fits_export (exported_in options.now) ≡ false → result ≡ Err Failure.CommandLine }
     ensures export { fits_export (exported_in options.now) ≡ true
         → EndsExport (is_checked (exported_in options.now)) result }
+    ensures done { fits_export (exported_in options.now) ≡ true
+        → IsExported (S.texts sources.now) (exported_in options.now) result }
     ensures checked { fits_export (exported_in options.now) ≡ true → is_checked (exported_in options.now) ≡ true
         → EndsChecked (S.texts sources.now) (exported_in options.now) result }
 {

@@ -2,12 +2,11 @@
 
 ghost use Rattle.std.specs.Prelude.{◌≡◌, ℕ, true, false, List, Option, None, Some, Err, IfErr, IfOk, IfSome};
 ghost use Rattle.std.specs.Prelude.{option_map};
-ghost use Rattle.ll_runs.specs.Sources.{named, text_in};
-ghost use Rattle.ll_options.specs.Options.{asked_by, fits, fits_learn, fits_schedule, fits_why, learn_in};
-ghost use Rattle.ll_options.specs.Options.{fits_serve, order_in, rights_in, scheduled_in, served_in, why_in};
-ghost use Rattle.ll_runs.specs.Failure.{EndsAudit, EndsSchedule, EndsServe, IsOfDevices};
-ghost use Rattle.ll_runs.specs.Policy.{EndsRun, IsRun, MayFail};
-ghost use Rattle.ll_commands.specs.Learn.{EndsLearn};
+ghost use Rattle.ll_program.specs.Sources.{named, text_in};
+ghost use Rattle.ll_program.specs.Options.{asked_by, fits, fits_schedule, fits_why};
+ghost use Rattle.ll_program.specs.Options.{fits_serve, order_in, rights_in, scheduled_in, served_in, why_in};
+ghost use Rattle.ll_program.specs.Failure.{EndsAudit, EndsSchedule, EndsServe, IsOfDevices};
+ghost use Rattle.ll_program.specs.Policy.{EndsRun, IsRun, MayFail};
 ghost use Rattle.ll_commands.specs.Rights.{EndsRights};
 ghost use Rattle.ll_commands.specs.Why.{EndsWhy, file_asked};
 ghost use Rattle.ll_commands.specs.Serving as serving;
@@ -18,16 +17,13 @@ use crate::hints::Hints;
 use crate::misfits::Misfit;
 use ll_audit::Verdict;
 use ll_commands::{
-    Binds, Log, draw_in, explain_schedule, learn_history, perform_schedule, serve, setup_by,
-    tell_learned, tell_rights, tell_why, window_by,
+    Binds, Log, draw_in, explain_schedule, perform_schedule, serve, setup_by, tell_rights,
+    tell_why, window_by,
 };
-use ll_options::{
-    LearnOptions, Lessons, Question, RightsOptions, RunOptions, ScheduleOptions, ServeOptions,
-    WhyOptions,
-};
-use ll_runs::{
-    Clash, Conclusion, Device, Failure, Late, NewFile, Purpose, Shown, Sources, audit, named,
-    read_text, run,
+use ll_program::{
+    Clash, Conclusion, Device, Failure, Late, NewFile, Purpose, Question, RightsOptions,
+    RunOptions, ScheduleOptions, ServeOptions, Shown, Sources, WhyOptions, audit, named, read_text,
+    run,
 };
 use ll_wire::Destination;
 use std::alloc::Global;
@@ -342,55 +338,6 @@ pub fn why_options<S: Sources>(
     hints.of_input("file", &file);
     hints.of_question(options, &told, &file);
     told
-}
-
-// Learns from a saved history.
-fn learn_file<S: Sources>(
-    rt: &HostRuntime,
-    sources: &S,
-    options: &LearnOptions,
-    history: &str,
-    client: Option<u64>,
-    hints: &mut Hints,
-) -> Result<Conclusion, Failure>
-    ensures { EndsLearn result }
-{
-    let mut file = Late::keeping(rt.alloc(), sources, named(history), hints.are_wanted());
-    let learned = learn_history(rt.alloc(), options, client, &mut file);
-    hints.of_input("history", &file);
-    let learned = match learned {
-        Ok(learned) => learned,
-        Err(failure) => return Err(failure),
-    };
-    tell_learned(
-        rt.alloc(),
-        options,
-        history,
-        &learned,
-        &mut rt.stdout(),
-        &mut rt.stderr(),
-    )
-}
-
-// `learn`.
-pub fn learn_options<S: Sources>(
-    rt: &HostRuntime,
-    sources: &S,
-    options: &LearnOptions,
-    hints: &mut Hints,
-) -> Result<Conclusion, Failure>
-    ensures unfit { fits_learn (learn_in options.now) ≡ false → result ≡ Err Failure.CommandLine }
-    ensures learn { EndsLearn result }
-{
-    match options.lessons() {
-        Some(Lessons::History(history, client)) => {
-            learn_file(rt, sources, options, history, client, hints)
-        }
-        _ => {
-            hints.of_misfit(Some(Misfit::NeitherChecksNorHistory));
-            Err(Failure::CommandLine)
-        }
-    }
 }
 
 // Serves the streams that come to a port, and saves the history, if a file is named.

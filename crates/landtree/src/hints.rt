@@ -11,10 +11,10 @@ use ll_audit::{Saved, Verdict};
 use ll_check::{Blame, DeniedTest, LinesOf, Notes, explain};
 use ll_commands::flaw_of;
 use ll_policy::{Policy, first_fault};
+use ll_program::{Failure, Late, NewFile, Sources};
 use ll_rights::Errno;
-use ll_runs::{Failure, Late, NewFile, Sources};
 use ll_why::{explain_entry, why_not};
-use ll_wire::{Header, escaped, read_command, shown};
+use ll_wire::{Header, escaped, read_command, shown, write_whole};
 use std::alloc::{AllocError, Global};
 use std::fmt::Display;
 use std::io::Write;
@@ -336,7 +336,7 @@ impl Hints {
     /// Writes them, where they are wanted.
     pub fn tell<W: Write>(&self, err: &mut W) {
         if self.is_wanted {
-            let _ = err.write_all(self.text.as_bytes());
+            let _ = write_whole(err, self.text.as_str());
         }
     }
 }

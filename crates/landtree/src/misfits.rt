@@ -1,9 +1,9 @@
 //! Words that clap takes, each for itself, and that don't go together.
 
-use ll_options::{
+use ll_path::{Path, Word};
+use ll_program::{
     CheckOptions, ExportOptions, RightsOptions, RunOptions, ScheduleOptions, ServeOptions,
 };
-use ll_path::{Path, Word};
 use std::alloc::Global;
 use std::fmt;
 use std::fmt::Display;
@@ -33,6 +33,7 @@ pub enum Misfit<'a> {
     NeitherEntryNorCommand,
     /// Of `learn`.
     NeitherChecksNorHistory,
+    ControlCharacter,
 }
 
 impl Display for Misfit<'_> {
@@ -59,8 +60,13 @@ impl Display for Misfit<'_> {
                 )
             }
             Misfit::NeitherChecksNorHistory => f.write_str(
-                "learn doesn't learn from files of checks yet: run --save writes a history, learn --history reads it",
+                "learn takes files of checks with --policy, or --history, and --client beside a history alone",
             ),
+            Misfit::ControlCharacter => {
+                f.write_str(
+                    "a file's name has a control character, and would end a comment of the profile",
+                )
+            }
             Misfit::NoPath(word) => write!(
                 f,
                 "{word} is no path: / is expected, or / and a name again and again"

@@ -2,11 +2,11 @@
 
 use crate::given::Given;
 use crate::hints::Hints;
-use ll_options::{
-    CheckOptions, ExportOptions, Question, RightsOptions, RunOptions, ServeOptions, WhyOptions,
+use ll_program::{
+    CheckOptions, Conclusion, ExportOptions, Failure, Late, LearnOptions, Question, RightsOptions,
+    RunOptions, ServeOptions, Sources, WhyOptions,
 };
 use ll_rights::limits::{HISTORY_ENTRIES, TREE_NODES};
-use ll_runs::{Conclusion, Failure, Late, Sources};
 
 impl Hints {
     /// Of `run`: a line of a strict script spells no command, or the policy is the reason.
@@ -77,6 +77,16 @@ impl Hints {
     /// Of `check`: the policy is the reason.
     pub fn of_check(&mut self, options: &CheckOptions, failure: &Failure, text: &[u8]) {
         let (policy, profile) = (options.policy, options.profile);
+        let given = Given::new(policy, Some(text), profile, options.nodes, HISTORY_ENTRIES);
+        if let Some(given) = given {
+            self.of_failure(failure, &given);
+        }
+    }
+
+    /// Of `learn`, from files of checks: the policy is the reason. No history is told beside files, and nobody has a
+    /// profile in their trees.
+    pub fn of_lessons(&mut self, options: &LearnOptions, failure: &Failure, text: &[u8]) {
+        let (policy, profile) = (options.policy, options.history);
         let given = Given::new(policy, Some(text), profile, options.nodes, HISTORY_ENTRIES);
         if let Some(given) = given {
             self.of_failure(failure, &given);

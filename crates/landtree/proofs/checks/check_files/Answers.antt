@@ -1,4 +1,4 @@
-use Rattle.ll_options.specs.Options.{checked_in}
+use Rattle.ll_program.specs.Options.{checked_in}
 use Rattle.landtree.proofs.CheckedFiles.{failed_by, unread}
 use Rattle.landtree.proofs.checks.check_files.Goals as goal
 

@@ -1,5 +1,5 @@
 use Rattle.std.proofs.Common.{refl}
-use Rattle.ll_options.specs.Options.{exported_in}
+use Rattle.ll_program.specs.Options.{exported_in}
 use Rattle.landtree.proofs.CheckedFiles.{exported}
 use Rattle.landtree.proofs.checks.export_policy.Goals as goal
 

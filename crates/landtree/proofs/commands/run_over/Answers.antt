@@ -1,4 +1,4 @@
-use Rattle.ll_options.specs.Options.{order_in}
+use Rattle.ll_program.specs.Options.{order_in}
 use Rattle.landtree.proofs.Runs.{run_packed}
 use Rattle.landtree.proofs.commands.run_over.Goals as goal
 

@@ -1,5 +1,5 @@
 use Rattle.std.proofs.Common.{◌∙◌, ap}
-use Rattle.ll_options.specs.Options.{order_in}
+use Rattle.ll_program.specs.Options.{order_in}
 use Rattle.landtree.proofs.Runs.{ends_run, policy_text}
 use Rattle.landtree.proofs.commands.run_script.Goals as goal
 

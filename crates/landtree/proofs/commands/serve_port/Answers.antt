@@ -1,6 +1,6 @@
 use Rattle.std.proofs.Common.{◌≡◌, ℕ, List, Option, IfErr, IfSome, Result, Ok, Err}
-use Rattle.ll_options.specs.Options.{ServeOrder, served_in}
-use Rattle.ll_runs.specs.declared.failure.Failure.{Failure}
+use Rattle.ll_program.specs.Options.{ServeOrder, served_in}
+use Rattle.ll_program.specs.declared.failure.Failure.{Failure}
 use Rattle.ll_commands.specs.Serving as serving
 use Rattle.landtree.proofs.Runs.{policy_text}
 use Rattle.landtree.proofs.commands.serve_port.Goals as goal

@@ -1,7 +1,7 @@
 use Rattle.std.specs.Prelude.{Result}
 use Rattle.std.proofs.Common.{subst}
-use Rattle.ll_options.specs.Options.{rights_in}
-use Rattle.ll_runs.specs.declared.failure.Failure.{Failure}
+use Rattle.ll_program.specs.Options.{rights_in}
+use Rattle.ll_program.specs.declared.failure.Failure.{Failure}
 use Rattle.ll_commands.specs.Rights.{EndsRights}
 use Rattle.landtree.proofs.TextsTold.{ended, rights_end}
 use Rattle.landtree.proofs.commands.tell_file.Goals as goal

@@ -1,5 +1,5 @@
 use Rattle.std.proofs.Common.{ap, ◌∙◌}
-use Rattle.ll_options.specs.Options.{why_in}
+use Rattle.ll_program.specs.Options.{why_in}
 use Rattle.landtree.proofs.TextsTold.{why_ends}
 use Rattle.landtree.proofs.commands.why_options.Goals as goal
 

@@ -1,0 +1,65 @@
+-- How lessons end, and what a history teaches.
+use Rattle.std.proofs.Common.{◌≡◌, ◌∙◌, ◌&&◌, ℕ, Bool, true, false, List, [], ◌∷◌, map, Option, None, Result, Ok, Err}
+use Rattle.std.proofs.Common.{refl, ap, subst, inl, inr}
+use Rattle.std.specs.Prelude.{IfSome}
+use Rattle.std.specs.Borrow.{Bor}
+use Rattle.std.specs.List.{AllZip, list_all}
+use Rattle.ll_program.specs.Options.{LearnOrder}
+use Rattle.ll_program.specs.Sources.{named}
+use Rattle.ll_program.specs.declared.checked.Checked.{Checked}
+use Rattle.ll_program.specs.declared.conclusion.Conclusion.{Conclusion}
+use Rattle.ll_program.specs.declared.failure.Failure.{Failure}
+use Rattle.ll_program.specs.declared.failure.Failure.TheVariants.{CommandLine, Policy, Opening, File, Output, Socket}
+use Rattle.ll_program.specs.declared.failure.Failure.TheVariants.{NoMemory}
+use Rattle.ll_check.specs.declared.checks.NamedText.{NamedText}
+use Rattle.ll_check.specs.Ends.{IsPolicyText, IsSource}
+use Rattle.ll_check.specs.Files.{source_of}
+use Rattle.ll_check.specs.Lessons.{EndsLessons}
+use Rattle.ll_commands.specs.Learn.{IsLearning, LacksLesson}
+use Rattle.landtree.specs.Learned.{EndsByChecks, EndsByHistory, concluded, is_of_line}
+
+pub lines_told : (names : List (Bor (List ℕ))) → list_all (λ name. list_all is_of_line name) (map (λ n. n.now) names)
+    ≡ list_all (λ (name : Bor (List ℕ)). list_all is_of_line name.now) names
+lines_told [] = refl
+lines_told (name ∷ names) = ap (λ rest. list_all is_of_line name.now && rest) (lines_told names)
+
+-- nothing is known of the history
+pub lacking : (order : LearnOrder) (text : List ℕ) (failure : Failure) → LacksLesson order text failure
+    → IsLearning order text None None (Err failure)
+lacking order text CommandLine lacks = (inl lacks, refl)
+lacking order text (Policy fault) lacks = absurd lacks
+lacking order text Opening lacks = absurd lacks
+lacking order text File lacks = refl
+lacking order text Output lacks = absurd lacks
+lacking order text Socket lacks = absurd lacks
+lacking order text NoMemory lacks = refl
+
+module _ (texts : Option (List ℕ) → Option (List ℕ)) (order : LearnOrder) where
+  pub by_checks : (names : List (Bor (List ℕ))) (policy told : List ℕ) (files all : List NamedText)
+      (end : Result Checked Failure) → map (λ n. n.now) names ≡ order.files
+      → told ≡ policy → all ≡ files → IsPolicyText texts order.policy policy
+      → AllZip (IsSource texts) (map (λ n. n.now) names) (map source_of files)
+      → (before after : Option (List ℕ)) × EndsLessons order told (map source_of all) before after end
+      → list_all (λ name. list_all is_of_line name) order.files ≡ true
+      → EndsByChecks texts order (concluded end)
+  by_checks names policy told files all end named so same known are ends lines = inr (inr (inr (
+    policy,
+    map source_of files,
+    ends.0,
+    ends.1,
+    end,
+    known,
+    subst (λ xs. AllZip (IsSource texts) xs (map source_of files)) named are,
+    subst (λ (x : List NamedText). EndsLessons order policy (map source_of x) ends.0 ends.1 end) same
+        (subst (λ (p : List ℕ). EndsLessons order p (map source_of all) ends.0 ends.1 end) so ends.2),
+    refl,
+    lines,
+  )))
+
+  pub by_history : (history : List ℕ) (left : Option (List ℕ)) (r : Result Conclusion Failure)
+      → left ≡ texts (named history)
+      → (text : List ℕ) × (before after : Option (List ℕ)) × IfSome left (λ told. text ≡ told)
+      × IsLearning order text before after r
+      → EndsByHistory texts order history r
+  by_history history left r read is =
+      (is.0, is.1, is.2, subst (λ o. IfSome o (λ told. is.0 ≡ told)) read is.3, is.4)

@@ -1,0 +1,36 @@
+use Rattle.std.proofs.Common.{◌≡◌, ◌∙◌, ap, inl, map, refl, subst, sym, true, false, List, ℕ}
+use Rattle.std.specs.Borrow.{Bor}
+use Rattle.std.specs.List.{list_all}
+use Rattle.ll_program.specs.Options.{learn_in}
+use Rattle.landtree.specs.Learned.{EndsByChecks, concluded, is_of_line}
+use Rattle.landtree.proofs.Taught.{by_checks, lines_told}
+use Rattle.landtree.proofs.lessons.learn_checks.Goals as goal
+
+pub returns-then-not-are_lines : goal.returns-then-not-are_lines
+returns-then-not-are_lines g c =
+    let lines = ap (list_all (λ (name : Bor (List ℕ)). list_all is_of_line name.now)) (sym c.as_slice.ensures.value) in
+    inl (refl, lines_told c.args.options.now.files.items ∙ lines ∙ sym c.if-not-are_lines.ensures)
+
+pub returns-in-Ok-ended : goal.returns-in-Ok-ended
+returns-in-Ok-ended g c =
+    let texts = g.S.Sources.texts c.args.sources.now in
+    let order = learn_in c.args.options.now in
+    let lines = ap (list_all (λ (name : Bor (List ℕ)). list_all is_of_line name.now)) (sym c.as_slice.ensures.value) in
+    rw c.ended_by.ensures (subst (λ e. EndsByChecks texts order (concluded e)) c.in-Ok-ended.is
+    (by_checks texts order c.as_slice-2.result.now c.in-Ok.policy.items c.as_slice-3.result.now
+    c.in-Ok-texts_of.files.items c.as_slice-4.result.now c.learn_over-ended.result
+    (ap (map (λ (n : Bor (List ℕ)). n.now)) c.as_slice-2.ensures.value) c.as_slice-3.ensures.value
+    c.as_slice-4.ensures.value c.in-Ok.ensures.text c.in-Ok-texts_of.ensures.sources c.learn_over-ended.ensures
+    (lines_told c.args.options.now.files.items ∙ lines ∙ sym c.if-not-are_lines.ensures)))
+
+pub returns : goal.returns
+returns g c =
+    let texts = g.S.Sources.texts c.args.sources.now in
+    let order = learn_in c.args.options.now in
+    let lines = ap (list_all (λ (name : Bor (List ℕ)). list_all is_of_line name.now)) (sym c.as_slice.ensures.value) in
+    subst (λ e. EndsByChecks texts order (concluded e)) c.in-Err-ended.is
+    (by_checks texts order c.as_slice-2.result.now c.in-Ok.policy.items c.as_slice-3.result.now
+    c.in-Ok-texts_of.files.items c.as_slice-4.result.now c.learn_over-ended.result
+    (ap (map (λ (n : Bor (List ℕ)). n.now)) c.as_slice-2.ensures.value) c.as_slice-3.ensures.value
+    c.as_slice-4.ensures.value c.in-Ok.ensures.text c.in-Ok-texts_of.ensures.sources c.learn_over-ended.ensures
+    (lines_told c.args.options.now.files.items ∙ lines ∙ sym c.if-not-are_lines.ensures))

@@ -1,0 +1,172 @@
+//! `learn`: a profile of what files of checks ask for, or of what a saved history did.
+
+ghost use Rattle.std.specs.Prelude.{◌≡◌, ℕ, List, Option, IfSome, map};
+ghost use Rattle.std.specs.List.{list_all};
+ghost use Rattle.ll_program.specs.Options.{learn_in, lessons_by};
+ghost use Rattle.ll_check.specs.Files.{source_of};
+ghost use Rattle.ll_check.specs.Lessons.{EndsLessons};
+ghost use Rattle.ll_commands.specs.Export.{ended_by};
+ghost use Rattle.ll_commands.specs.Learn.{IsLearning};
+ghost use Rattle.landtree.specs.Learned.{EndsByChecks, EndsByHistory, EndsLearned, is_of_line};
+
+use crate::checks::{policy_text, texts_of};
+use crate::hints::Hints;
+use crate::misfits::Misfit;
+use ll_check::{LearnInput, Notes, learn_files};
+use ll_commands::{learn_history, tell_learned};
+use ll_program::{Checked, Conclusion, Failure, Late, LearnOptions, Lessons, Sources, named};
+use std::alloc::Global;
+use std::io::{Read, Write};
+use std::sync::Wait;
+
+// Whether the byte is a character of a line, or a part of one.
+fn is_of_line(byte: u8) -> bool
+    ensures { result ≡ is_of_line byte }
+{
+    byte >= 32 && byte != 127
+}
+
+// Whether the name, which stands in comments, is one line.
+fn is_line(name: &str) -> bool
+    ensures { result ≡ list_all is_of_line name.now }
+{
+    name.as_bytes().iter().all(|byte| is_of_line(*byte))
+}
+
+// Whether each name is.
+fn are_lines(names: &[&str]) -> bool
+    ensures { result ≡ list_all (λ name. list_all is_of_line name.now) names.now }
+{
+    names.iter().all(|name| is_line(name))
+}
+
+// What is concluded of lessons that end so.
+fn ended_by(end: Checked) -> Conclusion
+    ensures { result ≡ ended_by end }
+{
+    match end {
+        Checked::Passed => Conclusion::Done,
+        Checked::Failed => Conclusion::Checked(Checked::Failed),
+        Checked::BadLine => Conclusion::Checked(Checked::BadLine),
+    }
+}
+
+// Learns from files of checks over devices of any kind, of which no more is told than what they are.
+fn learn_over<R: Wait, W: Write, E: Write, N: Notes>(
+    rt: &R,
+    alloc: Global,
+    input: &LearnInput<'_, '_>,
+    out: &mut W,
+    err: &mut E,
+    notes: &mut N,
+) -> Result<Checked, Failure>
+    ensures { (before after : Option (List ℕ)) × EndsLessons (learn_in input.now.options.now) input.now.policy.now
+        (map source_of input.now.files.now) before after result }
+{
+    learn_files(rt, alloc, input, out, err, notes)
+}
+
+// The same, from the saved history of this name.
+fn learn_from<R: Read, W: Write, E: Write>(
+    alloc: Global,
+    options: &LearnOptions,
+    name: &str,
+    file: &mut R,
+    out: &mut W,
+    err: &mut E,
+) -> Result<Conclusion, Failure>
+    ensures { (text : List ℕ) × (before after : Option (List ℕ))
+        × IfSome (R.remaining file.old) (λ told. text ≡ told)
+        × IsLearning (learn_in options.now) text before after result }
+{
+    let learned = match learn_history(alloc, options, file) {
+        Ok(learned) => learned,
+        Err(failure) => return Err(failure),
+    };
+    tell_learned(alloc, options, name, &learned, out, err)
+}
+
+// Learns from the files of checks.
+fn learn_checks<S: Sources + Wait>(
+    rt: &HostRuntime,
+    sources: &S,
+    options: &LearnOptions,
+    hints: &mut Hints,
+) -> Result<Conclusion, Failure>
+    ensures { EndsByChecks (S.texts sources.now) (learn_in options.now) result }
+{
+    if !are_lines(options.files.as_slice()) {
+        hints.of_misfit(Some(Misfit::ControlCharacter));
+        return Err(Failure::CommandLine);
+    }
+    let policy = match policy_text(rt, sources, options.policy, hints) {
+        Ok(policy) => policy,
+        Err(failure) => return Err(failure),
+    };
+    let files = match texts_of(rt, sources, options.files.as_slice(), hints) {
+        Ok(files) => files,
+        Err(failure) => return Err(failure),
+    };
+    let input = LearnInput {
+        options,
+        policy: policy.as_slice(),
+        files: files.as_slice(),
+    };
+    let ended = learn_over(
+        sources,
+        rt.alloc(),
+        &input,
+        &mut rt.stdout(),
+        &mut rt.stderr(),
+        hints,
+    );
+    match ended {
+        Ok(end) => Ok(ended_by(end)),
+        Err(failure) => {
+            hints.of_lessons(options, &failure, policy.as_slice());
+            Err(failure)
+        }
+    }
+}
+
+// Learns from the saved history of this name.
+fn learn_saved<S: Sources>(
+    rt: &HostRuntime,
+    sources: &S,
+    options: &LearnOptions,
+    history: &str,
+    hints: &mut Hints,
+) -> Result<Conclusion, Failure>
+    ensures { EndsByHistory (S.texts sources.now) (learn_in options.now) history.now result }
+{
+    let mut file = Late::keeping(rt.alloc(), sources, named(history), hints.are_wanted());
+    let ended = learn_from(
+        rt.alloc(),
+        options,
+        history,
+        &mut file,
+        &mut rt.stdout(),
+        &mut rt.stderr(),
+    );
+    hints.of_input("history", &file);
+    ended
+}
+
+/// `learn`.
+pub fn learn_options<S: Sources + Wait>(
+    rt: &HostRuntime,
+    sources: &S,
+    options: &LearnOptions,
+    hints: &mut Hints,
+) -> Result<Conclusion, Failure>
+    ensures { EndsLearned (S.texts sources.now) (learn_in options.now) (lessons_by (learn_in options.now)) result }
+{
+    match options.lessons() {
+        Some(Lessons::Checks(_)) => learn_checks(rt, sources, options, hints),
+        Some(Lessons::History(history, _)) => learn_saved(rt, sources, options, history, hints),
+        None => {
+            hints.of_misfit(Some(Misfit::NeitherChecksNorHistory));
+            Err(Failure::CommandLine)
+        }
+    }
+}
