@@ -28,8 +28,8 @@ def say(text: str) -> None:
 
 def told(fault: LandtreeError) -> str:
     if isinstance(fault, ProgramFault):
-        lines = [fault.line.replace("landtree: ", "", 1), *(it.strip() for it in fault.hints.splitlines()[:1])]
-        return ": ".join(it for it in lines if it)
+        hints = [it.strip() for it in fault.hints.splitlines() if not it.startswith("landtree: ")]
+        return ": ".join(it for it in [fault.line.replace("landtree: ", "", 1), *hints[:1]] if it)
     return str(fault)
 
 
@@ -199,7 +199,7 @@ def add_try(parser: argparse.ArgumentParser) -> None:
 
 def add_learn(parser: argparse.ArgumentParser) -> None:
     add_program(parser)
-    parser.add_argument("files", metavar="CHECKS", nargs="+", help="a file of checks, as `convert` makes it")
+    parser.add_argument("files", metavar="CHECKS", nargs="+", help="files of checks, as `convert` makes them")
     parser.add_argument("--policy", metavar="FILE", required=True, help="a policy with the nodes that are there first")
     add_learning(parser)
 
@@ -236,7 +236,7 @@ Add = Callable[[argparse.ArgumentParser], None]
 COMMANDS: Dict[str, Tuple[Callable[[argparse.Namespace], int], Add, str]] = {
     "record": (run_record, add_record, "Runs a program under strace and keeps the log"),
     "convert": (run_convert, add_convert, "Turns a log into a policy's nodes and a file of checks"),
-    "learn": (run_learn, add_learn, "Prints the profile under which the tests of a file of checks pass"),
+    "learn": (run_learn, add_learn, "Prints the profile under which the tests of files of checks pass"),
     "exec": (run_exec, add_exec, "Runs a program under a profile's layers, by the kernel's Landlock"),
     "try": (run_try, add_try, "Records a program, learns its profile, and runs it under this profile"),
     "lint": (run_lint, add_lint, "Looks in a policy for what its author may not want"),

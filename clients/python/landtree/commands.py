@@ -14,8 +14,7 @@ from typing import Iterable, List, Optional, Sequence, Tuple, Union
 
 from .errors import LandtreeError, ProgramFault, TimedOut
 from .exported import Exported, exported_of
-from .histories import learned_of
-from .values import Rights, RightsLike
+from .values import TREE_NODES, Rights, RightsLike
 
 File = Union[str, "os.PathLike[str]"]
 
@@ -204,17 +203,21 @@ class Commands:
         return exported_of(self.run("export", *words))
 
     def learn(self, files: Iterable[File], nodes: File, options: LearnOptions = LearnOptions()) -> Learned:
-        """Returns the least profile under which the tests of a file pass, on a policy's nodes. There may be one file.
+        """Returns the least profile under which all tests of files of checks pass, on a policy's nodes.
 
-        What the file can't teach is a `Fault`.
+        Raises `ProgramFault` if there is none. A test that isn't answered as it says has one line there.
         """
-        return learned_of(self, files, nodes, options)
+        how = [f"--policy={os.fspath(nodes)}", f"--nodes={TREE_NODES}"]
+        return self.learned(*how, *options.words(), "--", *(os.fspath(it) for it in files))
 
     def learn_history(self, history: File, options: LearnOptions = LearnOptions()) -> Learned:
         """Returns the least profile under which the calls of a saved history get the same replies."""
-        ended = self.ended("learn", f"--history={os.fspath(history)}", *options.words())
+        return self.learned(f"--history={os.fspath(history)}", *options.words())
+
+    def learned(self, *words: str) -> Learned:
+        ended = self.ended("learn", *words)
         if ended.returncode:
-            raise fault_of(ended)
+            raise unlearned_of(ended)
         return Learned(ended.stdout, ended.stderr)
 
     def version(self) -> str:
@@ -262,14 +265,28 @@ def why_of(text: str) -> Why:
 def checked_of(text: str, told: str) -> Checked:
     """Returns what a check has written: three lines for each test that failed, and the sum."""
     lines = text.splitlines()
+    passed, failed = numbers_of(lines[-1])
+    return Checked(passed, failed, failures_of(lines), told)
+
+
+def failures_of(lines: Sequence[str]) -> List[Failure]:
+    """Returns the tests that failed, by the three lines of each."""
     failures = []
     for place, wanted, got in zip(lines, lines[1:], lines[2:]):
         shown = SHOWN.fullmatch(place)
         if shown and wanted.startswith("expected ") and got.startswith("got "):
             expected, reply = wanted[len("expected ") :], got[len("got ") :]
             failures.append(Failure(shown[1], int(shown[2]), shown[3], expected, reply))
-    passed, failed = numbers_of(lines[-1])
-    return Checked(passed, failed, failures, told)
+    return failures
+
+
+def unlearned_of(ended: "subprocess.CompletedProcess[str]") -> LandtreeError:
+    """Returns the error for a profile that wasn't learned. The first test that failed is one line."""
+    lines = ended.stderr.splitlines()
+    for it in failures_of(lines[:3]):
+        line = f"{it.file}:{it.line}: {it.command}: expected {it.expected}, got {it.got}"
+        return ProgramFault(ended.returncode, line, "\n".join(lines[3:]))
+    return fault_of(ended)
 
 
 def numbers_of(line: str) -> Tuple[int, int]:

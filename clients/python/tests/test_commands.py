@@ -2,12 +2,13 @@
 
 from tests.support import PROGRAM, TOP, Case
 
-from landtree import Commands, ExportOptions, LearnOptions, ProgramFault, Rights, TimedOut
+from landtree import Commands, ExportOptions, LearnOptions, ProgramFault, Rights, Rule, TimedOut, load_policy
 from landtree.commands import Asked, Audited, Change, Failure, Granted
 from landtree.exported import ExportedRule, exported_of
 
 POLICY, CHECKS = TOP / "examples/build-service.toml", TOP / "examples/build-service.check"
 READ = Rights.READ_FILE | Rights.READ_DIR
+NODES = 'version = 2\nabi = 3\n[[node]]\npath = "/f"\nkind = "reg"\n'
 
 
 class Results(Case):
@@ -88,31 +89,64 @@ class Results(Case):
         program = self.put("learner", text)
         program.chmod(0o755)
         options = LearnOptions("b", "truncate,read_file", ["/usr"], 9)
+        how = "--name=b --beneath=/usr --never=read_file,truncate --most=9"
         learned = Commands(program).learn_history("h", options)
-        words = "learn --explain --history=h --name=b --beneath=/usr --never=read_file,truncate --most=9"
+        words = f"learn --explain --history=h {how}"
         self.assertEqual(learned.profile, "\n".join(["# least: it is so", *words.split(" "), ""]))
         self.assertEqual((learned.is_least, learned.hints), (True, "hint\n"))
+        learned = Commands(program).learn(["one.check", "two.check"], "n.toml", options)
+        words = f"learn --explain --policy=n.toml --nodes=4096 {how} -- one.check two.check"
+        self.assertEqual(learned.profile, "\n".join(["# least: it is so", *words.split(" "), ""]))
 
     def test_learning_what_a_file_of_checks_does(self):
         learned = self.commands.learn([CHECKS], POLICY)
         policy = self.put("p.toml", f"{POLICY.read_text()}\n{learned.profile}")
         checked = self.commands.check([CHECKS], policy, "learned")
         self.assertEqual((learned.is_least, checked.passed, checked.is_well), (True, 20, True))
+        notes = [it for it in learned.profile.splitlines()[1:] if it.startswith("# ")]
+        lines = ["17: open wc /build/main.o", "4: list /src", "5: open r /src/main.c"]
+        self.assertEqual(notes, [f"# {CHECKS}:{it}" for it in lines])
 
-    def test_what_a_file_of_checks_cannot_teach(self):
-        nodes = self.put("n.toml", 'version = 2\nabi = 3\n[[node]]\npath = "/f"\nkind = "reg"\n')
-        checks = self.put("c.check", "# Calls.\n\nlist / = names f\nopen r /g = fd 0\n")
-        said = f"{checks}:4: open r /g: fd 0 is expected, and it gets refused 3 ENOENT"
-        self.wants_fault(said, self.commands.learn, [checks], nodes)
-        checks.write_text("open r /f = fd 0\nopen r /f = denied ..\n")
-        said = f"{checks}:2: open r /f: denied .. is expected, and it gets fd 1 under the profile"
-        self.wants_fault(said, self.commands.learn, [checks], nodes)
-        checks.write_text("# None.\nopen r /f = denied ..\n")
-        self.wants_fault(f"{checks}: it has no test", self.commands.learn, [checks], nodes)
-        self.wants_fault("learn: it learns from one file of checks at a time", self.commands.learn, [], nodes)
+    def test_learning_what_two_files_do(self):
+        nodes = self.put("n.toml", NODES)
+        one, two = self.put("1.check", "open r /f = fd 0\n"), self.put("2.check", "make reg /g\nopen r /f = fd 0\n")
+        learned = self.commands.learn([one, two], nodes, LearnOptions("b"))
+        (layer,) = load_policy(f"{NODES}{learned.profile}").profiles["b"]
+        self.assertEqual(layer.rules, [Rule("/", Rights.MAKE_REG), Rule("/f", Rights.READ_FILE)])
+        notes = [it for it in learned.profile.splitlines()[1:] if it.startswith("# ")]
+        self.assertEqual(notes, [f"# {two}:1: make reg /g", f"# {one}:1: open r /f"])
+
+    def test_what_files_of_checks_cannot_teach(self):
+        nodes, checks = self.put("n.toml", NODES), self.room / "c.check"
+        for text, status, line in (
+            ("# Calls.\n\nlist / = names f\nopen r /g = fd 0\n", 3, ":4: open r /g: expected fd 0, got refused 3"),
+            ("open r /f = fd 0\nopen r /f = denied ..\n", 3, ":2: open r /f: expected denied .., got fd 1"),
+            ("open\n", 2, ":1:5: "),
+        ):
+            checks.write_text(text)
+            fault = self.fault([checks], nodes)
+            self.assertEqual((fault.status, fault.line[: len(f"{checks}{line}")]), (status, f"{checks}{line}"))
+        checks.write_text("# None.\n")
+        fault = self.fault([checks], nodes)
+        self.assertEqual((fault.status, fault.line), (3, f"no test in {checks}"))
+        fault = self.fault([], nodes)
+        self.assertEqual((fault.status, fault.line), (2, "landtree: command line"))
+        fault = self.fault([CHECKS], POLICY, LearnOptions(most=1))
+        self.assertEqual((fault.status, fault.line), (2, "3 rules, 1 may be: --most 256, or --beneath DIR"))
+        fault = self.fault([CHECKS], POLICY, LearnOptions(never="read_dir"))
+        line = f"{CHECKS}:4: list /src: no layer that may be learned lets this pass"
+        self.assertEqual((fault.status, fault.line), (3, line))
+
+    def fault(self, *words):
         with self.assertRaises(ProgramFault) as caught:
-            self.commands.learn([CHECKS], POLICY, LearnOptions(most=1))
-        self.assertEqual(caught.exception.status, 2)
+            self.commands.learn(*words)
+        return caught.exception
+
+    def test_learning_from_what_must_be_denied_alone(self):
+        checks = self.put("c.check", "open r /f = denied ..\n")
+        learned = self.commands.learn([checks], self.put("n.toml", NODES))
+        (layer,) = load_policy(f"{NODES}{learned.profile}").profiles["learned"]
+        self.assertEqual((layer.handled, layer.rules), (Rights.ALL, []))
 
 
 class Exports(Case):

@@ -47,14 +47,19 @@ class Words(Case):
 
     def test_learn(self):
         nodes = self.put("n.toml", 'version = 2\nabi = 3\n[[node]]\npath = "/f"\nkind = "reg"\n')
-        checks = self.put("c.check", "open r /f = fd 0\n")
-        ended = self.run_module("learn", checks, "--policy", nodes, "--name", "p", "--program", PROGRAM)
+        checks, more = self.put("c.check", "open r /f = fd 0\n"), self.put("d.check", "open w /f = fd 0\n")
+        ended = self.run_module("learn", checks, more, "--policy", nodes, "--name", "p", "--program", PROGRAM)
         self.assertEqual(ended.returncode, 0, ended.stderr)
         (layer,) = load_policy(nodes.read_text() + ended.stdout).profiles["p"]
-        self.assertEqual(layer, Layer(Rights.ALL, [Rule("/f", Rights.READ_FILE)]))
+        self.assertEqual(layer, Layer(Rights.ALL, [Rule("/f", Rights.READ_FILE | Rights.WRITE_FILE)]))
         checks.write_text("open r /g = fd 0\n")
         ended = self.run_module("learn", checks, "--policy", nodes, "--program", PROGRAM)
-        self.assertEqual((ended.returncode, ended.stdout), (2, ""))
+        said = f"landtree: {checks}:1: open r /g: expected fd 0, got refused 3 ENOENT\n"
+        self.assertEqual((ended.returncode, ended.stdout, ended.stderr), (2, "", said))
+        checks.write_text("open r /f\nmake reg /g\n")
+        words = ["--policy", nodes, "--most", "1", "--program", PROGRAM]
+        said = "landtree: 2 rules, 1 may be: --most 256, or --beneath DIR\n"
+        self.assertEqual(self.run_module("learn", checks, *words).stderr, said)
 
     def test_bytes_that_steer_a_terminal(self):
         ended = self.run_module("lint", "a\x1b[2J\nb")
