@@ -14,7 +14,8 @@ class Demands(Model):
     def __init__(self, case):
         super().__init__(case.nodes, case.history, case.abi)
         self.learned, self.asks, self.moves, self.openings, self.end = set(), [], [], {}, 0
-        self.is_denied = self.is_moved = False
+        self.is_denied = self.is_moved = self.is_strayed = False
+        self.places = {}
         self.entry = 1
         for node in case.policy:
             self.answer(1, f"make {node}")
@@ -25,6 +26,12 @@ class Demands(Model):
 
     def inodes(self, nodes):
         return [node.inode for node in nodes if node.inode < self.end]
+
+    def are_still(self, nodes):
+        """Whether each node of the policy on the path has that path which it had."""
+        sites = [[node.inode for node in place] for place in self.places.values()]
+        path = [node.inode for node in nodes]
+        return all(path[: number + 1] in sites for number, inode in enumerate(path) if inode < self.end)
 
     def answer(self, client, call):
         self.entry += 1
@@ -50,6 +57,7 @@ class Demands(Model):
             self.asks += [(self.entry, rights, self.inodes(nodes)) for rights, nodes, _ in asked]
             gained = [(node.meaning(), self.inodes(own), self.inodes(into)) for node, own, into, _ in gains]
             self.moves += [(self.entry, *it) for it in gained]
+            self.is_strayed |= not all(self.are_still(into) for _, _, into, _ in gains)
         super().deny(client, *asked, gains=gains)
 
     def call_open(self, client, mode, path):
