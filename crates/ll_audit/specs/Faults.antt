@@ -1,4 +1,4 @@
--- Which device failed, where a file of a history can't be read or written. own
+-- Which device failed when a history's file can't be read or written. own
 use Rattle.std.specs.Prelude.{◌≡◌, ℕ, ◌+◌, ◌^◌, ◌≤◌, true, false}
 use Rattle.ll_wire.specs.Devices.{Devices, IsWhole}
 use Rattle.ll_audit.specs.declared.auditing.FileAuditFault.{FileAuditFault}
@@ -6,7 +6,7 @@ use Rattle.ll_audit.specs.declared.auditing.FileAuditFault.TheVariants as audit
 use Rattle.ll_audit.specs.declared.saving.SaveFault.{SaveFault}
 use Rattle.ll_audit.specs.declared.saving.SaveFault.TheVariants as saves
 
--- these devices are left by a call that ends so, to which whole ones were given
+-- the devices after a call that failed like this, and that was given whole ones
 abbrev pub BlamesAudit : FileAuditFault → Devices → Type 0
 BlamesAudit audit.Read d = (d.is_input_broken ≡ true) × (d.is_output_broken ≡ false)
 BlamesAudit audit.Write d = (d.is_output_broken ≡ true) × (d.is_input_broken ≡ false)
@@ -16,7 +16,7 @@ abbrev pub BlamesSave : SaveFault → Devices → Type 0
 BlamesSave saves.Write d = d.is_output_broken ≡ true
 BlamesSave saves.NoMemory d = d.is_output_broken ≡ false
 
--- a file is read whose lines aren't answered, by so many reads at most that gave bytes
+-- A file is being read whose lines aren't answered. At most this many reads returned bytes
 abbrev pub IsReading : Devices → ℕ → Type 0
 IsReading d most =
     IsWhole d × (d.is_answering ≡ false) × (d.owed ≡ 0) × (d.reads ≤ 2 ^ 62 + most)

@@ -1,4 +1,4 @@
--- Saved histories, and what an audit answers for a file. own
+-- Saved histories, and the verdict of an audit on a file. own
 use Rattle.std.specs.Prelude.{◌≡◌, ℕ, ◌+◌, List, [], ◌∷◌, ◌++◌, length, codes, decimal}
 use Rattle.std.specs.List.{AllZip, flat_map}
 use Rattle.ll_seq.specs.declared.reply.Entry.{Entry}
@@ -11,16 +11,16 @@ use Rattle.ll_wire.specs.Entries.{SpellsHeader, SpellsEntry, header_tokens, entr
 use Rattle.ll_audit.specs.declared.verdict.Verdict.{Verdict}
 use Rattle.ll_audit.specs.declared.verdict.Verdict.TheVariants.{Legal, Illegal, BadLine}
 
--- what is saved of a history: its header, and a line for each entry
+-- the text of a saved history: its header, and a line for each entry
 abbrev pub saved_text : Header → List Entry → List ℕ
 saved_text h es = line_of (header_tokens h) ++ flat_map entry_line es
 
--- a header's line, and a line for each entry
+-- the lines are the header's, and one for each entry
 abbrev pub Tell : List (List ℕ) → Header → List Entry → Type 0
 Tell [] h es = ⊥
 Tell (line ∷ lines) h es = SpellsHeader line h × AllZip SpellsEntry lines es
 
--- the number of the first line that is of no form, from 1: the header's, whether it is there or not, or an entry's
+-- the number, from 1, of the first line that is not well-formed: the header's, also if it is missing, or an entry's
 pub data IsFirstBad (lines : List (List ℕ)) : ℕ → Type 0 where
   no_header : ((line : List ℕ) (more : List (List ℕ)) (h : Header) → lines ≡ line ∷ more → SpellsHeader line h → ⊥)
       → IsFirstBad lines 1
@@ -28,12 +28,12 @@ pub data IsFirstBad (lines : List (List ℕ)) : ℕ → Type 0 where
       → lines ≡ front ++ line ∷ back → Tell front h es
       → ((e : Entry) → SpellsEntry line e → ⊥) → IsFirstBad lines (length es + 2)
 
--- the tree that the header tells of, when it was opened
+-- the tree that the header describes, when it was created
 abbrev pub opened : Header → State
 opened h = start (version_rules h.version) h.nodes
 
--- What an audit answers for a file's lines: the first bad one; or else the first entry that isn't what the tree answers
--- there; or else how many there are
+-- The verdict on a file's lines: the first bad line; or else the first entry with a reply that the tree doesn't give
+-- there; or else the number of entries
 pub data Judges (lines : List (List ℕ)) : Verdict → Type 0 where
   bad : (k : ℕ) → IsFirstBad lines k → Judges lines (BadLine k)
   illegal : (h : Header) (es : List Entry) (k : ℕ) → Tell lines h es → IsFirstIllegal (opened h) es k

@@ -113,7 +113,7 @@ fn write_verdict<E: Ends>(
 }
 
 /// Reads a history file to its end, judges it, and writes the verdict's line. Doesn't use a device again after it
-/// failed.
+/// failed. Errors: a device failed, or memory ran out.
 pub fn run_audit_over<E: Ends, P: Progress>(
     alloc: Global,
     ends: &mut E,
@@ -148,7 +148,8 @@ pub fn run_audit_over<E: Ends, P: Progress>(
     }
 }
 
-/// Reads a history file to its end, judges it, and writes the verdict's line.
+/// Reads a history file to its end, judges it, and writes the verdict's line. Errors: a device failed, or memory ran
+/// out.
 pub fn run_audit<R: Read, W: Write, P: Progress>(
     alloc: Global,
     reader: &mut R,

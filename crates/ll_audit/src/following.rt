@@ -12,7 +12,8 @@ use ll_seq::Entry;
 /// Progress is reported after this many entries.
 const STRIDE: usize = 10_000;
 
-/// Makes the entries' calls in a tree, up to the first whose reply isn't the tree's. Reports progress.
+/// Makes the entries' calls in a tree, up to the first whose reply isn't the tree's. Reports progress. Errors: that
+/// entry's number, or memory ran out.
 pub fn follow_parts<P: Progress>(
     tree: &mut Plain,
     entries: &[Entry],

@@ -26,8 +26,8 @@ use ll_rights::limits::TREE_NODES;
 use ll_seq::{Entry, History, Rules};
 use std::alloc::Global;
 
-/// Makes the entries' calls in a tree, up to the first whose reply isn't the tree's. After a fault the tree's state is
-/// unspecified: the faulty entry's call may have been made.
+/// Makes the entries' calls in a tree, up to the first whose reply isn't the tree's. Errors: that entry's number, or
+/// memory ran out. The tree's state is then unspecified: the faulty entry's call may have been made.
 pub fn follow(tree: &mut Plain, entries: &[Entry]) -> Result<(), AuditFault>
     requires { tree.old.next + length entries.now < 2 ^ 64 }
     ensures legal { OnOk result (IsLegal tree.old entries.now) }
@@ -46,7 +46,8 @@ pub fn follow(tree: &mut Plain, entries: &[Entry]) -> Result<(), AuditFault>
     Ok(())
 }
 
-/// Judges the history of a tree with these rules and this limit of live nodes.
+/// Judges the history of a tree with these rules and this limit of live nodes. Errors: the number of the first illegal
+/// entry, or memory ran out.
 pub fn audit(alloc: Global, rules: Rules, nodes: usize, history: &History) -> Result<(), AuditFault>
     requires some { 1 ≤ nodes }
     requires most { nodes ≤ TREE_NODES }

@@ -69,7 +69,7 @@ fn take(told: &mut Vec<Entry>, alloc: Global, line: &[u8]) -> Result<(), ReadFau
 }
 
 impl Saved {
-    /// Parses a file's bytes.
+    /// Parses a file's bytes. Errors: the first malformed line, or memory ran out.
     pub fn read(alloc: Global, bytes: &[u8]) -> Result<Saved, ReadFault>
         ensures told { IfOk result (λ saved. Tell (pieces bytes.now) saved.header saved.entries.items) }
         ensures bad { IfErr result (λ fault. (k : ℕ) → fault ≡ ReadFault.BadLine k → IsFirstBad (pieces bytes.now) k) }

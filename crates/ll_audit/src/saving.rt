@@ -73,7 +73,8 @@ fn write_block<E: Ends>(text: &mut String, ends: &mut E) -> Result<(), Broken>
     }
 }
 
-/// Writes a history file. Doesn't use the device again after it failed.
+/// Writes a history file. Doesn't use the device again after it failed. Errors: the device failed, or memory ran out; a
+/// prefix of the text may be written.
 pub fn save_over<E: Ends>(
     alloc: Global,
     header: Header,
@@ -110,7 +111,8 @@ pub fn save_over<E: Ends>(
     }
 }
 
-/// Writes a history file: its header, and a line for each entry.
+/// Writes a history file: its header, and a line for each entry. Errors: the writer failed, or memory ran out; a prefix
+/// of the text may be written.
 pub fn save<W: Write>(
     alloc: Global,
     header: Header,

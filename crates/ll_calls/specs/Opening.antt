@@ -1,4 +1,4 @@
--- What a tree may be opened with. own
+-- With which limits a tree may be created. own
 use Rattle.std.specs.Prelude.{ℕ, ◌≤◌}
 use Rattle.ll_rights.specs.declared.limits.TheConstants.{HISTORY_ENTRIES, TREE_NODES}
 

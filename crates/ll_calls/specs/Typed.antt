@@ -1,4 +1,4 @@
--- What a call came to, as its answer's type tells it. own
+-- The result of a call, as its typed answer says it. own
 use Rattle.std.specs.Prelude.{Result, Ok, Err, Bool, ⊤}
 use Rattle.ll_rights.specs.declared.errno.Errno.TheVariants as errno
 use Rattle.ll_seq.specs.declared.reply.Reply.{Reply}
@@ -9,19 +9,19 @@ use Rattle.ll_client.specs.Replies.{Fits}
 use Rattle.ll_calls.specs.declared.refused.Refused.{Refused}
 use Rattle.ll_calls.specs.declared.refused.Refused.TheVariants as refused
 
--- a full history and want of memory have no entry, and any other refusal has one
+-- a full history and NoMemory have no entry, and any other refusal has one
 abbrev pub refused_as : Refused → Made
 refused_as (refused.Errno errno.HistoryFull) = made.HistoryFull
 refused_as (refused.Errno errno.NoMemory) = made.NoMemory
 refused_as (refused.Errno other) = made.Replied (reply.Refused other)
 refused_as (refused.Denied denial) = made.Replied (reply.Denied denial)
 
--- a value is the reply that tells it
+-- the reply that has this value
 abbrev pub made_as : {A : Type 0} → (A → Reply) → Result A Refused → Made
 made_as tells (Ok value) = made.Replied (tells value)
 made_as tells (Err why) = refused_as why
 
--- a reply that may come where so is told what succeeds
+-- the reply is a success of this kind, or a failure that an entry may have
 abbrev pub FitsMade : (Reply → Bool) → Made → Type 0
 FitsMade succeeds (made.Replied told) = Fits succeeds told
 FitsMade succeeds made.HistoryFull = ⊤

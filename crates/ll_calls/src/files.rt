@@ -1,4 +1,4 @@
-//! Calls on descriptors.
+//! Calls on descriptors. Errors of each: why the call did nothing.
 
 ghost use Rattle.ll_seq.specs.declared.call.Call.TheVariants as calls;
 ghost use Rattle.ll_seq.specs.declared.reply.Reply.TheVariants as replies;

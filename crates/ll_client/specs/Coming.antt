@@ -1,4 +1,4 @@
--- What lies in the slots of a tree, what becomes of a client whose call is started, and what comes of a spawn. own
+-- What the slots of a tree hold, how a client changes when its call is started, and the result of a spawn. own
 use Rattle.std.specs.Prelude.{◌≡◌, ◌⊎◌, ℕ, List, map, length, Some, Result, Ok, Err, true}
 use Rattle.std.specs.List.{range_with_len}
 use Rattle.ll_rights.specs.declared.errno.Errno.{Errno}
@@ -21,13 +21,13 @@ kept_at b k = record { number = k; held = slot_of b k }
 abbrev pub all_kept : Book → List Kept
 all_kept b = map (kept_at b) (range_with_len 0 (length b.inodes))
 
--- it is made, or its walk begins, as only a walk of a path does, or it comes back
+-- the call is made; or its walk begins, which needs a path; or it is returned
 abbrev pub SetsOut : ℕ → Call → Knows → Start → Knows → Type 0
 SetsOut limit call k (start.Made answer) k' = Gains limit call k answer k'
 SetsOut limit call k start.Begun k' = (has_path call ≡ true) × (k' ≡ record k { doing = Some call })
 SetsOut limit call k (start.Back back) k' = k' ≡ k
 
--- What a spawn without a child comes to: a refusal has an entry, unless the history is full or memory ran out
+-- The result of a spawn without a child: a refusal has an entry, unless the history is full or memory ran out
 abbrev pub childless : Errno → Made
 childless HistoryFull = made.HistoryFull
 childless NoMemory = made.NoMemory
@@ -38,6 +38,6 @@ abbrev pub spawn_made : Result ℕ Errno → Made
 spawn_made (Ok child) = made.Replied (Spawned child)
 spawn_made (Err errno) = childless errno
 
--- Why no client comes: as many were made as a tree may have, the history is full, or memory ran out
+-- Why no client is created: the tree has as many as it may, the history is full, or memory ran out
 abbrev pub HasNoPlace : Errno → Type 0
 HasNoPlace errno = (errno ≡ EMFILE) ⊎ (errno ≡ HistoryFull) ⊎ (errno ≡ NoMemory)

@@ -1,4 +1,4 @@
--- What the entries of the tie mean, and what contracts see of a slot and of a client. own
+-- What the entries of the table mean, and what contracts see of a slot and of a client. own
 use Rattle.std.specs.Prelude.{◌≡◌, ℕ, ◌+◌, ◌*◌, ◌<◌, ◌≤◌, ◌==◌, true, List, [], ◌∷◌, length, Option, Some, None}
 use Rattle.std.specs.Prelude.{option_map, take, ◌++◌, if◌then◌else◌, refl}
 use Rattle.std.specs.List.{AllByRecursion}
@@ -30,7 +30,7 @@ use Rattle.ll_client.specs.contracts.account.Starved as starved_type
 abbrev pub numbered : ℕ → Call → Reply → Numbered
 numbered number call reply = record { number = number; call = call; reply = reply }
 
--- the entries of the client, with their numbers; so many came before
+-- the client's entries, with their numbers, after this many others
 abbrev pub part_from : ℕ → ℕ → List Entry → List Numbered
 part_from before client [] = []
 part_from before client (e ∷ es) =
@@ -48,8 +48,8 @@ doing_of w client = option_map (λ (walk : Walk). walk.call) (get w.walks client
 abbrev pub starved_at : ℕ → Call → Starved
 starved_at at call = record { at = at; call = call }
 
--- Memory ran out for this call of the client, when the history had so many entries: there was room for one more, and
--- it is a call to which that may happen
+-- Memory ran out for this call of the client, when the history had this many entries. There was room for one more, and
+-- the call may find no memory
 abbrev pub IsStarved : Rules → (room limit : ℕ) → List Entry → ℕ → Starved → Type 0
 IsStarved rules room limit history client x =
     let s = state_after (start rules room) (take x.at history) in
@@ -58,7 +58,7 @@ IsStarved rules room limit history client x =
 abbrev pub AreStarved : World → ℕ → List Starved → Type 0
 AreStarved w client starved = AllByRecursion (IsStarved w.rules w.room w.limit w.history client) starved
 
--- after each beginning of the history its clients have numbers from 1 to how many there are
+-- after each prefix of the history, its clients have numbers from 1 to their count
 abbrev pub AreInOrder : Rules → ℕ → List Entry → Type 0
 AreInOrder rules room history =
     (early late : List Entry) → history ≡ early ++ late → (c : ℕ)
@@ -67,13 +67,13 @@ AreInOrder rules room history =
 
 -- ---- What contracts see
 
--- a slot: its number, and what lies in it
+-- a slot: its number, and what it holds
 pub record Kept : Type 0 where
   pub number : ℕ
   pub held : Held
 
--- A client: its number, its part of the history, the calls for which memory ran out, in their order, the number of the
--- last entry that it knows of, and the call of its walk under way
+-- A client. number: its number. part: its part of the history. starved: the calls for which memory ran out, in their
+-- order. seen: the number of the last entry that it knows of. doing: the call of its walk under way
 pub record Knows : Type 0 where
   pub number : ℕ
   pub part : List Numbered
@@ -98,8 +98,8 @@ coded_knows =
     (λ k. (k.number, (k.part, (k.starved, (k.seen, k.doing)))))
     (λ p. record { number = p.0; part = p.1.0; starved = p.1.1.0; seen = p.1.1.1.0; doing = p.1.1.1.1 }) (λ _. refl)
 
--- ---- Entries: the numbers 0, 3, 6 and so on are those of slots, 1, 4, 7 those of clients' accounts, 2, 5, 8 those of
--- clients' wants
+-- ---- Entries: the numbers 0, 3, 6 and so on are those of slots; 1, 4, 7 those of clients' accounts; 2, 5, 8 those of
+-- clients' calls for which memory ran out
 
 abbrev pub slot_entry : ℕ → Held → ℕ × Account
 slot_entry k held = (3 * k, Slot held)
@@ -123,8 +123,8 @@ abbrev pub starved_in : Option (ℕ × Account) → List Starved
 starved_in None = []
 starved_in (Some entry) = elim entry.1 [ Slot held ↦ [] | Client part seen doing ↦ [] | Wants starved ↦ starved ]
 
--- The value under the number is the account of its slot, or of its client, which knows of no entry that isn't there; or
--- the calls of its client for which memory ran out
+-- The value under the number is one of three. The account of its slot; or of its client, which knows of no entry that
+-- doesn't exist; or its client's calls for which memory ran out
 abbrev pub IsAccount : Book → ℕ → Account → Type 0
 IsAccount b key (Slot held) = (k : ℕ) × (key ≡ 3 * k) × (k < length b.inodes) × (held ≡ slot_of b k)
 IsAccount b key (Client part seen doing) =
@@ -137,8 +137,7 @@ IsAccount b key (Wants starved) =
 abbrev pub AreAccounts : Book → Map nat_cmp Account → Type 0
 AreAccounts b entries = (key : ℕ) (x : Account) → get entries key ≡ Some x → IsAccount b key x
 
--- What lies behind the journal's lock: the accounts that are out are the journal's, and its world is one to which steps
--- lead
+-- What is behind the journal's lock: the accounts given out are the journal's, and steps lead to its world
 pub record IsDesk (slots limit : ℕ) (rules : Rules) (b : Book) (entries : Map nat_cmp Account) : Type 0 where
   pub accounts : AreAccounts b entries
   pub sound : IsSound b.world

@@ -1,4 +1,4 @@
--- What becomes of a client by a step, and what a walk's end is. own
+-- How a step changes a client, and the end of a walk. own
 use Rattle.std.specs.Prelude.{◌≡◌, ℕ, ◌<◌, ◌≤◌, List, [], ◌∷◌, ◌++◌, Some, None, true}
 use Rattle.ll_seq.specs.declared.call.Call.{Call}
 use Rattle.ll_seq.specs.declared.reply.Reply.{Reply}
@@ -19,13 +19,13 @@ use Rattle.ll_client.specs.declared.left.Left.TheVariants as left
 use Rattle.ll_client.specs.Entries.{Knows, knows, numbered, starved_at}
 use Rattle.ll_client.specs.Replies.{Fits, success}
 
--- one entry more, above all that it knew of, with a reply that this call may have; no walk of it is under way
+-- one more entry, after all that the client knew of, with a reply that this call may have; its walk has ended
 abbrev pub Told : Call → Reply → Knows → Knows → Type 0
 Told call reply k k' =
     (k.seen < k'.seen) × Fits (success call) reply
     × (k' ≡ knows k.number (k.part ++ numbered k'.seen call reply ∷ []) k.starved k'.seen None)
 
--- By a call of its own, in a tree whose history may have so many entries. Memory runs out only for a call that takes
+-- By a call of its own, in a tree whose history may have `limit` entries. Memory runs out only for a call that needs
 -- some: then the client knows of all entries made so far, and of that call
 abbrev pub Gains : ℕ → Call → Knows → Made → Knows → Type 0
 Gains limit call k (made.Replied reply) k' = Told call reply k k'
@@ -34,7 +34,7 @@ Gains limit call k made.NoMemory k' =
     (takes_memory call ≡ true) × (k.seen ≤ k'.seen)
     × (k' ≡ record k { starved = k.starved ++ starved_at k'.seen call ∷ []; seen = k'.seen })
 
--- where its walk is left
+-- when its walk is left: by a commit or a restart
 abbrev pub Goes : ℕ → Knows → Left → Knows → Type 0
 Goes limit k left.NotNow k' = k' ≡ k
 Goes limit k left.Astray k' = k' ≡ k
@@ -45,7 +45,7 @@ Goes limit k left.NoMemory k' =
     (call : Call) × (k.doing ≡ Some call) × (takes_memory call ≡ true) × (k.seen ≤ k'.seen)
     × (k' ≡ record k { starved = k.starved ++ starved_at k'.seen call ∷ []; seen = k'.seen; doing = None })
 
--- the step, and the world after: a commit ends as the journal says, and a restart is above the root again
+-- the step, and the world after it: a commit ends as the journal says, and a restart is above the root again
 abbrev pub Leaves : Leaving → Book → ℕ → Left → Book → Type 0
 Leaves Commit b number left.NotNow b' = Ends b number ending.NotNow b'
 Leaves Commit b number left.Astray b' = b' ≡ b
@@ -60,12 +60,12 @@ Leaves Restart b number left.Again b' = advance b.world (steps.Restart number) �
 Leaves Restart b number left.HistoryFull b' = ⊥
 Leaves Restart b number left.NoMemory b' = ⊥
 
--- the walk is to be left so, and the slots aren't enough
+-- the walk is to be left this way, and the slots aren't enough
 abbrev pub IsAstray : Leaving → Book → ℕ → List ℕ → Type 0
 IsAstray Commit b number slots = IsAstrayAtEnd b number slots
 IsAstray Restart b number slots = IsAstrayAt b number slots
 
--- beside the world nothing changes, unless a commit makes a node or lets one go
+-- apart from the world nothing changes, unless a commit creates or removes a node
 abbrev pub LeavesRest : Leaving → Book → ℕ → List ℕ → Book → Type 0
 LeavesRest Commit b number slots b' = LeavesFree b number slots b'
 LeavesRest Restart b number slots b' = b' ≡ record b { world = b'.world }

@@ -1,4 +1,4 @@
--- What becomes of the entries where passes are taken back and given out. No public contract cites it. own
+-- How the entries change when passes are taken back and given out. No public contract cites it. own
 use Rattle.std.specs.Prelude.{◌≡◌, ◌≢◌, ℕ, ◌+◌, ◌*◌, ◌≤◌, ◌==◌, Bool, true, false, List, [], ◌∷◌, ◌++◌, ⊤}
 use Rattle.std.specs.Prelude.{Option, Some, None, Result, Ok, Err}
 use Rattle.std.specs.Prelude.{if◌then◌else◌}
@@ -37,32 +37,32 @@ abbrev pub AllOut : List ℕ → Map nat_cmp Account → Type 0
 AllOut [] m = ⊤
 AllOut (k ∷ ks) m = (get m (3 * k) ≡ None) × AllOut ks m
 
--- a slot's entry went, so it is none of those that had gone
+-- a slot's entry was removed, and the slot is none of those whose entries were removed before
 pub record SlotGoes (k : ℕ) (m n : Map nat_cmp Account) : Type 0 where
   pub out : (ks : List ℕ) → AllOut ks m → AllOut (k ∷ ks) n × NotIn k ks
 
--- a client's entry went, and no other client's
+-- a client's entry was removed, and no other client's
 pub record ClientGoes (c : ℕ) (m n : Map nat_cmp Account) : Type 0 where
   pub was : get m (3 * c + 1) ≢ None
   pub others : (d : ℕ) → d ≢ c → get n (3 * d + 1) ≡ get m (3 * d + 1)
   pub out : (ks : List ℕ) → AllOut ks m → AllOut ks n
   pub gone : get n (3 * c + 1) ≡ None
 
--- of the accounts of slots and of clients none came, and none went
+-- no entry of a slot or of a client was added or removed
 pub record OnlyWants (m n : Map nat_cmp Account) : Type 0 where
   pub out : (ks : List ℕ) → AllOut ks m → AllOut ks n
   pub clients : (d : ℕ) → get n (3 * d + 1) ≡ get m (3 * d + 1)
 
--- a slot's entry came
+-- a slot's entry was added
 pub record SlotComes (k c : ℕ) (m n : Map nat_cmp Account) : Type 0 where
   pub out : (ks : List ℕ) → NotIn k ks → AllOut ks m → AllOut ks n
   pub client : get m (3 * c + 1) ≡ None → get n (3 * c + 1) ≡ None
 
--- what lies in the slot of this number in a tree of the root alone
+-- what the slot with this number holds in a new tree
 abbrev pub held_first : ℕ → Held
 held_first k = if k == 0 then filled root Dir else vacant
 
--- a client that has just come: it is there, it has no walk, and neither pass of its number is out
+-- a client that has just come: it exists, has no walk, and neither pass with its number is given out
 pub record HasCome (b : Book) (c : ℕ) (m : Map nat_cmp Account) : Type 0 where
   pub there : has (shown b.world).clients c ≡ true
   pub few : c ≤ TREE_CLIENTS
@@ -70,11 +70,11 @@ pub record HasCome (b : Book) (c : ℕ) (m : Map nat_cmp Account) : Type 0 where
   pub free : get m (3 * c + 1) ≡ None
   pub sated : get m (3 * c + 2) ≡ None
 
--- the same of a client in this world
+-- the client holds its part of this world's history
 abbrev pub HoldsPartIn : World → Knows → Type 0
 HoldsPartIn w k = HoldsPart w.rules w.room w.limit w.history k
 
--- ---- how a walk is left, by what the journal tells
+-- ---- how a walk is left, by what the journal returns
 
 abbrev pub ended_as : Ending → Left
 ended_as ending.NotNow = left.NotNow
@@ -83,7 +83,7 @@ ended_as (ending.Replied reply) = left.Answered reply
 ended_as ending.HistoryFull = left.HistoryFull
 ended_as ending.NoMemory = left.NoMemory
 
--- a restart neither stands nor forks
+-- a restart neither descends nor forks
 abbrev pub restarted_as : Progress → Left
 restarted_as outcome.NotNow = left.NotNow
 restarted_as outcome.Astray = left.Astray
@@ -91,7 +91,7 @@ restarted_as outcome.Restarted = left.Again
 restarted_as (outcome.Stands inode) = left.NotNow
 restarted_as outcome.Forked = left.NotNow
 
--- the last entry that the client knows of then, where the history is so long
+-- the last entry that the client knows of then, if the history has `entries` entries
 abbrev pub seen_of : Left → ℕ → ℕ → ℕ
 seen_of (left.Answered reply) seen entries = entries
 seen_of left.HistoryFull seen entries = entries
@@ -100,18 +100,18 @@ seen_of left.Astray seen entries = seen
 seen_of left.Again seen entries = seen
 seen_of left.NoMemory seen entries = entries
 
--- the same of a call that doesn't walk
+-- the last entry that the client knows of after a call that doesn't walk
 abbrev pub seen_made : {E : Type 0} → Result Made E → ℕ → ℕ → ℕ
 seen_made (Ok answer) seen entries = entries
 seen_made (Err back) seen entries = seen
 
--- the same of a call that is started
+-- the last entry that the client knows of after a call was started
 abbrev pub seen_started : Start → ℕ → ℕ → ℕ
 seen_started (start.Made answer) seen entries = seen_made {E = Call} (Ok answer) seen entries
 seen_started start.Begun seen entries = seen
 seen_started (start.Back back) seen entries = seen
 
--- ---- want of memory
+-- ---- whether memory ran out
 
 abbrev pub starves_left : Left → Bool
 starves_left left.NoMemory = true
@@ -132,23 +132,23 @@ starves_started (start.Made answer) = starves_made {E = Call} (Ok answer)
 starves_started start.Begun = false
 starves_started (start.Back back) = false
 
--- the client's calls for which it ran out, after this one, where the history has so many entries
+-- the client's calls for which memory ran out, with this one added; the history has this many entries
 abbrev pub with_starved : List Starved → ℕ → Option Call → List Starved
 with_starved starved entries None = starved
 with_starved starved entries (Some call) = starved ++ starved_at entries call ∷ []
 
--- where it ran out for it
+-- with this call added if memory ran out for it
 abbrev pub starved_if : Bool → List Starved → ℕ → Option Call → List Starved
 starved_if ran_out starved entries call = if ran_out then with_starved starved entries call else starved
 
--- ---- what comes of a spawn, by what the journal tells. A spawn's reply is the child's number or a refusal
+-- ---- the result of a spawn, by what the journal returns. A spawn's reply is the child's number or a refusal
 
 abbrev pub child_told : Reply → Result ℕ Errno
 child_told (replies.Spawned number) = Ok number
 child_told (replies.Refused errno) = Err errno
 child_told _ = Err EMFILE
 
--- an idle client's spawn doesn't come back
+-- an idle client's spawn is never returned
 abbrev pub child_of : Result Made Call → Result ℕ Errno
 child_of (Ok (made.Replied reply)) = child_told reply
 child_of (Ok made.HistoryFull) = Err HistoryFull

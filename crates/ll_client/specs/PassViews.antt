@@ -1,4 +1,4 @@
--- What a pass holds: a seat of its table that shows an entry, or none. own
+-- What a pass holds: a seat of its table that shows an entry, or no seat. own
 use Rattle.std.specs.Prelude.{◌≡◌, ⊤, ℕ, List, [], ◌∷◌, Option, None}
 use Rattle.atomic_table.specs.Seated.{TableId}
 use Rattle.atomic_table.specs.declared.badge.Badge.{Badge}
@@ -17,7 +17,7 @@ no_table = record {
 }
 
 module _ {D : Type 0} where
-  -- the entry that is shown by the one view, if there is one
+  -- the entry that the only view shows, if any
   abbrev pub shown : List (Known D) → Option (ℕ × D)
   shown [] = None
   shown (v ∷ vs) = v.shows

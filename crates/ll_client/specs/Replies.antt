@@ -1,4 +1,4 @@
--- What a call may be answered. own
+-- Which replies a call may have. own
 use Rattle.std.specs.Prelude.{◌≡◌, ◌≤◌, Bool, true, false, ⊤, Option}
 use Rattle.ll_rights.specs.Errno.{errno_number}
 use Rattle.ll_seq.specs.declared.call.Call.{Call}
@@ -42,7 +42,7 @@ abbrev pub is_spawned : Reply → Bool
 is_spawned (replies.Spawned number) = true
 is_spawned other = false
 
--- what a call that succeeds is answered
+-- the reply to a call that succeeds
 abbrev pub success : Call → Reply → Bool
 success (Make kind target) = is_done
 success (Open mode target) = is_opened
@@ -66,8 +66,8 @@ success (Confine number) = is_done
 success Spawn = is_spawned
 success Connect = is_done
 
--- Or it is denied, or refused. EACCES and EXDEV come only as denials; HistoryFull, NoMemory, BadLine and Stale stand in
--- no entry
+-- Or it is denied, or refused. EACCES and EXDEV are given only by denials; no entry has HistoryFull, NoMemory, BadLine
+-- or Stale
 abbrev pub Fits : (Reply → Bool) → Reply → Type 0
 Fits succeeds (replies.Refused errno) = (3 ≤ errno_number errno) × (errno_number errno ≤ 20)
 Fits succeeds (replies.Denied denial) = ⊤

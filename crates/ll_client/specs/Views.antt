@@ -5,7 +5,8 @@ use Rattle.std.specs.Ordering.{nat_cmp}
 use Rattle.ll_rights.specs.Map.{Map, empty}
 use Rattle.ll_rights.specs.MapCodes.{code}
 
--- keeps: it is the keeper's, and entries are all that are shown. shows: the entry that it shows itself
+-- keeps: whether the seat is the keeper's. entries: all entries shown by passes. shows: the entry that the seat itself
+-- shows
 pub record Known (D : Type 0) : Type 0 where
   pub keeps : Bool
   pub entries : Map nat_cmp D
@@ -20,11 +21,11 @@ module _ {D : Type 0} where
       (λ p. record { keeps = p.0; entries = p.1.0; shows = p.1.1 })
       (λ _. refl)
 
-  -- the keeper of these entries
+  -- the keeper with these entries
   abbrev pub keeper : Map nat_cmp D → Known D
   keeper entries = record { keeps = true; entries = entries; shows = None }
 
-  -- the same, showing an entry itself: that of a pass which came back, or of one that it is about to give out
+  -- the keeper while it shows an entry itself: that of a returned pass, or of one about to be given out
   abbrev pub showing : Map nat_cmp D → ℕ × D → Known D
   showing entries entry = record { keeps = true; entries = entries; shows = Some entry }
 
@@ -32,14 +33,14 @@ module _ {D : Type 0} where
   abbrev pub spent : Known D
   spent = record { keeps = false; entries = empty; shows = None }
 
-  -- the one seat, showing what the other one does
+  -- two seats made one, which shows the entry of the second
   abbrev pub joined : Known D → Known D → Known D
   joined v w = record v { shows = w.shows }
 
-  -- the same seat, which shows nothing
+  -- the seat after it stopped showing its entry
   abbrev pub without_entry : Known D → Known D
   without_entry v = record v { shows = None }
 
-  -- a pass of what the seat shows
+  -- a pass with the entry that the seat shows
   abbrev pub only_entry : Known D → Known D
   only_entry v = record spent { shows = v.shows }

@@ -17,8 +17,9 @@ pub struct Starved {
     pub call: Call,
 }
 
-/// One of three: the contents that a slot must have; a client's part of the history, the number of its last known
-/// entry, and the call of its walk; or a client's calls that got NoMemory. No value of this type is created.
+/// What an entry shows, one of three. A slot's: the contents that it must have. A client's: its part of the history,
+/// the number of its last known entry, and the call of its walk. Or a client's calls that got NoMemory. No value of
+/// this type is created.
 pub enum Account {
     Slot(Held),
     Client(LinkedList<Numbered>, u64, Option<Call>),

@@ -1,4 +1,4 @@
--- Masks: the sets of rights that a domain's layers grant on a chain of inodes from the root on. Cited by contracts
+-- Masks: the sets of rights that a domain's layers grant on a chain of inodes, from the root on. Cited by contracts
 -- between crates alone. own
 use Rattle.std.specs.Prelude.{◌≡◌, ℕ, ◌^◌, ◌<◌, List}
 use Rattle.std.specs.List.{AllZip}

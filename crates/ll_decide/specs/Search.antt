@@ -17,7 +17,7 @@ use Rattle.ll_decide.specs.Demands.{lacking, gaining}
 use Rattle.ll_decide.specs.Judge.{grants_by}
 use Rattle.ll_decide.specs.Verdict.{when, places, rights_without_refer, denials}
 
--- one layer's denials, by its number from 1
+-- one layer's denial of one right at one place, if any. Layers are numbered from 1
 abbrev pub of_place : Cause → ℕ → (ℕ → Place → Bool) → ℕ → Place → List Denial
 of_place cause layer test right place =
     when (test right place) (record { cause = cause; layer = layer; right = right; place = place } ∷ [])
@@ -37,7 +37,7 @@ abbrev pub fails : Granted → Demands → Reason → ℕ → ℕ → Place → 
 fails g d Lacks layer right place = lacking (grants_by g layer) d right place
 fails g d Gains layer right place = gaining (grants_by g layer) d right place
 
--- a layer is kept as its number from 0
+-- the numbers of the layers, from 0
 abbrev pub layers_of : Granted → List ℕ
 layers_of g = range_with_len 0 (length g.itself.now)
 

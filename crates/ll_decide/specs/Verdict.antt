@@ -1,5 +1,5 @@
--- What a domain denies: every layer has to grant every right that is asked. landlock.rst, "Layers of file path access
--- rights". A layer may be kept as anything that tells what it grants on what stands for a path
+-- What a domain denies: every layer has to grant every right that is needed. landlock.rst, "Layers of file path access
+-- rights". Layers and paths may be of any types: `grants` says what a layer grants on a path
 use Rattle.std.specs.Prelude.{ℕ, Bool, true, false, not, ◌&&◌, List, [], ◌∷◌, ◌++◌, Option, ◌==◌, slice_get, filter}
 use Rattle.std.specs.Prelude.{if◌then◌else◌}
 use Rattle.std.specs.List.{list_any, flat_map, enumerate_from}
@@ -16,7 +16,7 @@ pub record Ask (P : Type 0) : Type 0 where
   pub right : ℕ
   pub place : Place
 
--- a node that gets a name in another directory. relevant: the rights that mean something for it
+-- a node that gets a name in another directory. relevant: the rights that apply to it
 pub record Move (P : Type 0) : Type 0 where
   pub from : P
   pub into : P
@@ -38,7 +38,7 @@ places = At ∷ Old ∷ New ∷ []
 abbrev pub rights_without_refer : List ℕ
 rights_without_refer = filter (λ right. not (right == refer)) all_rights
 
--- by layer from 1, then right, then place
+-- the denials that the test finds, sorted by layer (numbered from 1), then right, then place
 abbrev pub denials : {A : Type 0} → Cause → List A → List ℕ → List Place → (A → ℕ → Place → Bool) → List Denial
 denials {A} cause layers rights places test =
     flat_map (λ (l : ℕ × A). flat_map (λ right. flat_map (λ place.
@@ -46,18 +46,18 @@ denials {A} cause layers rights places test =
     places) rights) (enumerate_from 1 layers)
 
 module _ {A P : Type 0} (grants : A → P → ℕ → Bool) where
-  -- the layer doesn't grant what is asked so
+  -- the layer doesn't grant a right that is needed, at this place
   abbrev pub lacks : List (Ask P) → A → ℕ → Place → Bool
   lacks asks layer right place = list_any (λ (a : Ask P).
       (a.right == right) && is_at a.place place && not (grants layer a.path right)) asks
 
-  -- the new directory would give a node a right that its path doesn't. linux/landlock.h, LANDLOCK_ACCESS_FS_REFER
+  -- the new directory would give a node a right that its old path doesn't. linux/landlock.h, LANDLOCK_ACCESS_FS_REFER
   abbrev pub gains : List (Move P) → A → ℕ → Place → Bool
   gains moves layer right place = list_any (λ (m : Move P).
       is_at m.place place && holds m.relevant right
       && grants layer m.into right && not (grants layer m.from right)) moves
 
-  -- The first is given: what is missing, a missing refer, then what would be gained
+  -- All denials in the order of report: missing rights, then a missing refer, then rights gained. The first is reported
   abbrev pub all_denials : List A → List (Ask P) → List (Move P) → List Denial
   all_denials layers asks moves =
       denials EACCES layers rights_without_refer places (lacks asks)

@@ -32,8 +32,8 @@ pub enum Way {
     Back,
 }
 
-/// The rights that a call needs, as one set for each `On`; and, for each direction of moving, the rights that apply to
-/// the moved node (the empty set if nothing moves that way).
+/// The rights that a call needs, as one set for each `On`. For each direction of moving, also the rights that apply to
+/// the moved node: the empty set if nothing moves that way.
 #[derive(Clone, Copy)]
 pub struct Demands {
     pub itself: Access,

@@ -21,6 +21,7 @@ impl Place {
     /// All places, in the order in which a denial picks them.
     pub(crate) const ALL: [Place; 3] = [Place::At, Place::Old, Place::New];
 
+    /// Returns the place's name, as lines spell it.
     pub fn text(self) -> &'static str
         ensures { result.now ≡ place_text self }
     {
@@ -53,6 +54,7 @@ pub enum Cause {
 }
 
 impl Cause {
+    /// Returns the errno with the cause's name.
     pub fn errno(self) -> Errno
         ensures { result ≡ cause_errno self }
     {

@@ -39,7 +39,7 @@ pub fn least_denial(demands: &Demands, granted: &Granted<'_>) -> Option<Denial>
         → AreMoves demands.now moves
         → result ≡ verdict (grants_by granted.now) (range_with_len 0 (length granted.now.itself.now)) asks moves }
 
-    // In terms of the layers behind the masks, and the inode chains that the masks cover.
+    // In terms of the domain's layers, and the inode chains that the masks cover.
     ensures along_chains { (domain : List Layer) (chain : asked_on.On → List ℕ) (asks : List (Ask asked_on.On))
         (moves : List (Move asked_on.On))
         → AreAsks demands.now asks → AreMoves demands.now moves → AreGranted domain chain granted.now
@@ -114,7 +114,8 @@ impl Denied {
         None
     }
 
-    /// The least of these rights that is denied, at the least place.
+    /// Returns the least denied right of these, with the least place, as a denial. Returns None if none of them is
+    /// denied.
     fn first(self, cause: Cause, layer: u64, rights: &[Right]) -> Option<Denial>
         ensures { result ≡ slice_get (of_layer cause layer (is_in self) rights.now) 0 }
     {
@@ -130,7 +131,7 @@ impl Denied {
     }
 }
 
-/// The rights that the layer doesn't grant, out of these.
+/// Returns those of these rights that the layer doesn't grant.
 fn missing(rights: Access, masks: &Masks, layer: usize) -> Access
     requires { layer < length masks.now }
     ensures { (right : ℕ) → right < 15
@@ -140,7 +141,7 @@ fn missing(rights: Access, masks: &Masks, layer: usize) -> Access
     Access(rights.0 & !granted.0)
 }
 
-/// The rights that the layer grants, out of these.
+/// Returns those of these rights that the layer grants.
 fn had(rights: Access, masks: &Masks, layer: usize) -> Access
     requires { layer < length masks.now }
     ensures { (right : ℕ) → holds result.0 right ≡ (holds rights.0 right && holds (slice_index masks.now layer) right) }
@@ -149,7 +150,7 @@ fn had(rights: Access, masks: &Masks, layer: usize) -> Access
     Access(rights.0 & granted.0)
 }
 
-/// Whether no layer can deny anything for this reason, because no right is needed or nothing moves.
+/// Reports whether no layer can deny anything for this reason, because no right is needed or nothing moves.
 fn demands_nothing(demands: &Demands, reason: Reason) -> bool
     ensures { result ≡ true → (g : granted_of.Granted) (layer right : ℕ) (place : told_at.Place)
         → fails g demands.now reason layer right place ≡ false }
@@ -166,7 +167,7 @@ fn demands_nothing(demands: &Demands, reason: Reason) -> bool
     }
 }
 
-/// Whether refer is needed on anything.
+/// Reports whether refer is needed on anything.
 fn asks_refer(demands: &Demands) -> bool
     ensures { result ≡ false → (g : granted_of.Granted) (layer : ℕ) (place : told_at.Place)
         → fails g demands.now Reason.Lacks layer refer place ≡ false }
@@ -230,7 +231,7 @@ impl Granted<'_> {
         }
     }
 
-    /// The least denial of the oldest layer that denies something.
+    /// Returns the least denial of the oldest layer that denies something.
     fn first(
         &self,
         demands: &Demands,
@@ -256,7 +257,7 @@ impl Granted<'_> {
         None
     }
 
-    /// The denial of the oldest layer that lacks a needed refer.
+    /// Returns the denial of the oldest layer that lacks a needed refer.
     fn first_refer(&self, demands: &Demands) -> Option<Denial>
         requires other { length self.now.other.now ≡ length self.now.itself.now }
         requires parent { length self.now.parent.now ≡ length self.now.itself.now }

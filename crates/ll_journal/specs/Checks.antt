@@ -1,4 +1,4 @@
--- What the journal finds before a step: whether it may be made. No public contract cites it. own
+-- What the journal checks before a step: whether it may be made. No public contract cites it. own
 use Rattle.std.specs.Prelude.{◌≡◌, ◌⊎◌, ℕ, ◌==◌, Bool, true, false, not, ◌&&◌, ◌||◌, List, Option, Some, None, is_none}
 use Rattle.std.specs.Prelude.{option_map, option_and_then, slice_get, if◌then◌else◌}
 use Rattle.std.specs.List.{list_all, list_any}
@@ -31,7 +31,7 @@ use Rattle.ll_journal.specs.Seated.{call_in, first_here_in, here_in, is_at_ends,
 abbrev pub goes_on : Seat → Bool
 goes_on seat = option_map_or (λ (walk : Walk). not walk.stale) seat.walk false
 
--- on its fourth start a walk takes the gate
+-- on its fourth start a walk needs the gate
 abbrev pub has_gate : Seat → Option ℕ → ℕ → Bool
 has_gate seat gate number =
     not (option_map_or (λ (walk : Walk). walk.starts == 4) seat.walk false)
@@ -47,7 +47,7 @@ check_enter seat gate number slot =
 abbrev pub is_directory : Map nat_cmp Fact → ℕ → Bool
 is_directory facts inode = option_map_or (λ (fact : Fact). is_dir fact.kind) (get facts inode) false
 
--- the directory that the name names
+-- the check for the directory that the name leads to
 abbrev pub check_into : Map nat_cmp Fact → Option ℕ → Held → StepCheck
 check_into facts None to = NotNow
 check_into facts (Some inode) to =
@@ -64,19 +64,19 @@ abbrev pub look_from : Map nat_cmp Fact → Option ℕ → Option Name → Held 
 look_from facts None next from to = Astray
 look_from facts (Some here) next from to = if from.inode == here then check_next facts next from to else Astray
 
--- where the last name of the call's one path stands, or that of its second
+-- the spot of the last name of the call's only path, or of its second path
 abbrev pub last_found : Call → Found → Spot
 last_found call found = if has_two_paths call then found.second else found.first
 
--- with this for both paths: of a call with two the second's tells which node it may change or tell of
+-- the same spot for both paths: only the second's says which node a call with two paths may change or report on
 abbrev pub found_last : Spot → Found
 found_last last = record { first = last; second = last; is_full = false }
 
--- the inode lies in what is lent
+-- the inode is in one of the lent slots
 abbrev pub lends : List Held → ℕ → Bool
 lends lent inode = list_any (λ (held : Held). held.inode == inode) lent
 
--- each directory where the seat's walk stands is lent
+-- each directory where the seat's walk is has its slot lent
 abbrev pub is_all_lent : List Held → Seat → Bool
 is_all_lent lent seat =
     option_map_or (λ (walk : Walk). list_all (λ (leg : Leg). lends lent leg.here) (legs walk.at)) seat.walk true
@@ -91,7 +91,7 @@ abbrev pub check_descend : Map nat_cmp Fact → Seat → Held → Held → StepC
 check_descend facts seat from to =
     if not (goes_on seat) then NotNow else look_from facts (here_in seat) (next_in seat) from to
 
--- ---- The directory to which a walk would go down
+-- ---- The directory that a walk would go down to
 
 abbrev pub directory_at : Map nat_cmp Fact → Option ℕ → Option ℕ
 directory_at facts None = None
@@ -111,20 +111,20 @@ directory_below facts seat from =
 
 -- ---- What a walk finds at its ends
 
--- what the last name stands for in the directory; the root for the root's path
+-- the inode of the last name in the directory, or the root for the root's path
 abbrev pub last_in : Held → Path → Option ℕ
 last_in held path = if is_root path then Some root else get held.node.names (last_name path)
 
 abbrev pub spot_at : Map nat_cmp Fact → Held → Path → Spot
 spot_at facts held path = spot_by facts None held.inode (last_in held path)
 
--- why the leg in turn can't go on: what its next name stands for is no directory
+-- why the leg in turn can't go on: its next name leads to no directory
 abbrev pub blocked_at : Map nat_cmp Fact → Option ℕ → Option Errno
 blocked_at facts found =
     slice_get
     (no_directory (option_and_then (λ inode. option_map (λ (fact : Fact). fact.kind) (get facts inode)) found)) 0
 
--- it is lent, and this inode lies in it
+-- this slot is lent, and holds this inode
 pub record Lies (lent : List Held) (inode : ℕ) (held : Held) : Type 0 where
   pub place : ℕ
   pub there : slice_get lent place ≡ Some held
@@ -136,13 +136,13 @@ abbrev pub stop_by : Option Errno → CommitCheck
 stop_by None = stops.NotNow
 stop_by (Some errno) = stops.Blocked errno
 
--- with this name ahead, in the directory that is lent
+-- with this name ahead, in the lent directory
 abbrev pub StopsBefore : Map nat_cmp Fact → List Held → ℕ → Name → CommitCheck → Type 0
 StopsBefore facts lent here name stop =
     ((held : Held) × Lies lent here held × (stop ≡ stop_by (blocked_at facts (get held.node.names name))))
     ⊎ (Misses here lent × (stop ≡ stops.Astray))
 
--- a walk of another client stands in the node of the last name
+-- a walk of another client is in the node of the last name
 abbrev pub is_marked_at : (ℕ → Bool) → Path → Spot → Bool
 is_marked_at marked path spot =
     not (is_root path) && option_map_or (λ (there : There). marked there.inode) spot.there false
@@ -151,7 +151,7 @@ abbrev pub is_marked_there : (ℕ → Bool) → Call → Found → Bool
 is_marked_there marked call found =
     is_marked_at marked (first_path call) found.first || is_marked_at marked (second_path call) found.second
 
--- besides the directories, what the call may need is lent
+-- the lent slots include those that the call may need in addition to directories
 abbrev pub is_enough : List ℕ → List Held → ℕ → Call → Found → Bool
 is_enough slots lent spare call found =
     list_all (λ inode. (inode == 0) || lends lent inode) (nodes_of call found)
@@ -185,14 +185,14 @@ StopsAtEnds facts full marked slots lent seat stop =
     × (first_here_in seat ≡ Some first) × (second_here_in seat ≡ Some second)
     × StopsBetween facts full marked slots lent seat.spare call first second stop)
 
--- with the next name of the leg in turn, if there is one
+-- with the next name of the leg in turn, if any
 abbrev pub StopsBy : Map nat_cmp Fact → Bool → (ℕ → Bool) → List ℕ → List Held → Seat → Option Name → CommitCheck
     → Type 0
 StopsBy facts full marked slots lent seat None stop = StopsAtEnds facts full marked slots lent seat stop
 StopsBy facts full marked slots lent seat (Some name) stop =
     (here : ℕ) × (here_in seat ≡ Some here) × StopsBefore facts lent here name stop
 
--- marked: where a walk of another client stands
+-- marked: where another client's walk is
 abbrev pub Stops : Map nat_cmp Fact → Bool → (ℕ → Bool) → List ℕ → List Held → Seat → CommitCheck → Type 0
 Stops facts full marked slots lent seat stop =
     ((goes_on seat ≡ false) × (stop ≡ stops.NotNow))

@@ -1,4 +1,4 @@
--- What the calls do that don't walk. own
+-- What calls that don't walk do. own
 use Rattle.std.specs.Prelude.{◌≡◌, ◌≢◌, ◌⊎◌, ℕ, [], ◌∷◌, ◌++◌, true, Some, None, false}
 use Rattle.ll_rights.specs.declared.access.Access.{Access}
 use Rattle.ll_rights.specs.Map.{get, has}
@@ -21,8 +21,8 @@ use Rattle.ll_journal.specs.declared.open_file.Unmade.TheVariants as unmade
 use Rattle.ll_journal.specs.Book.{Book, inode_in}
 use Rattle.ll_journal.specs.Starving.{Starves}
 
--- The outcome is that of the step, and so is the world after. A full history takes no entry, and where memory runs out,
--- for a call that nothing refuses, the step isn't made
+-- The outcome and the world are the step's. A full history takes no entry. If memory runs out, for a call that nothing
+-- refuses, the step isn't made
 abbrev pub Answers : Book → Step → Made → Book → Type 0
 Answers b step' (answer.Replied reply) b' =
     (is_full b.world ≡ false) × (advance b.world step' ≡ (world.Replied reply, b'.world))
@@ -30,31 +30,31 @@ Answers b step' answer.HistoryFull b' =
     (advance b.world step' ≡ (world.Replied (Refused HistoryFull), b'.world)) × (b' ≡ b)
 Answers b step' answer.NoMemory b' = (b' ≡ b) × Starves b.world step'
 
--- The calls for the client alone that may take memory
+-- the calls for the client alone that may take memory
 abbrev pub TakesMemory : Call → Type 0
 TakesMemory call =
     ((rights : Access) × (call ≡ Ruleset rights)) ⊎ ((number : ℕ) × (call ≡ Confine number)) ⊎ (call ≡ Spawn)
 
--- A new client keeps the last of the free slots
+-- a new client takes the last of the free slots as its spare
 pub record TakesSpare (b b' : Book) : Type 0 where
   pub slot : ℕ
   pub free : b.free ≡ b'.free ++ slot ∷ []
   pub spares : b'.spares ≡ b.spares ++ slot ∷ []
   pub inodes : b'.inodes ≡ b.inodes
 
--- Beside the world nothing changes, unless a client was spawned
+-- apart from the world nothing changes, unless a client was spawned
 abbrev pub LeavesSlots : Call → Book → Book → Type 0
 LeavesSlots call b b' = (b' ≡ record b { world = b'.world }) ⊎ ((call ≡ Spawn) × TakesSpare b b')
 
 -- ---- Calls on descriptors
 
--- the client is there, and this is its descriptor of the number
+-- the client exists, and has this descriptor under this number
 pub record IsOpen (w : World) (client number : ℕ) (file : Descriptor) : Type 0 where
   pub caller : ClientRecord
   pub there : get (shown w).clients client ≡ Some caller
   pub holds : get caller.descriptors number ≡ Some file
 
--- the call is on a descriptor that the client has, of a file that doesn't lie in the slot; no walk of it is under way
+-- The call is on a descriptor that the client has, but its file isn't in the slot. The client has no walk under way
 pub record IsAstrayOn (b : Book) (client : ℕ) (call : Call) (slot : ℕ) : Type 0 where
   pub number : ℕ
   pub file : Descriptor
@@ -63,13 +63,13 @@ pub record IsAstrayOn (b : Book) (client : ℕ) (call : Call) (slot : ℕ) : Typ
   pub idle : get b.world.walks client ≡ None
   pub elsewhere : inode_in b slot ≢ file.inode
 
--- The call comes back: its step isn't enabled, or another slot was lent than the file's
+-- The call is returned: its step isn't enabled, or the lent slot isn't the file's
 abbrev pub ComesBack : Book → ℕ → Call → ℕ → Unmade → Type 0
 ComesBack b client call slot (unmade.NotNow back) =
     (back ≡ call) × (advance b.world (steps.FdCommit client call) ≡ (world.NotNow, b.world))
 ComesBack b client call slot (unmade.Astray back) = (back ≡ call) × IsAstrayOn b client call slot
 
--- The node that lay in the slot is gone, and the slot is the last of the free ones
+-- the node in the slot was removed, and the slot is the last of the free ones
 pub record FreesSlot (b b' : Book) (slot : ℕ) : Type 0 where
   pub there : has (shown b.world).nodes (inode_in b slot) ≡ true
   pub gone : kind_of (shown b'.world) (inode_in b slot) ≡ None
@@ -77,7 +77,7 @@ pub record FreesSlot (b b' : Book) (slot : ℕ) : Type 0 where
   pub free : b'.free ≡ b.free ++ slot ∷ []
   pub spares : b'.spares ≡ b.spares
 
--- Beside the world nothing changes, unless a close lets the node go that lies in the slot
+-- apart from the world nothing changes, unless a close removes the node in the slot
 abbrev pub LeavesSlot : Call → ℕ → Book → Book → Type 0
 LeavesSlot call slot b b' =
     (b' ≡ record b { world = b'.world }) ⊎ ((number : ℕ) × (call ≡ Close number) × FreesSlot b b' slot)

@@ -20,40 +20,40 @@ use Rattle.ll_journal.specs.declared.files.BytesCall.TheVariants.{Read, Write, R
 use Rattle.ll_journal.specs.declared.files.FileCall.{FileCall}
 use Rattle.ll_journal.specs.declared.files.FileCall.TheVariants.{Close, OnBytes}
 
--- the call that asks this of the bytes, on the descriptor of the number
+-- the call for this operation on bytes, on the descriptor with this number
 abbrev pub on_bytes : BytesCall → ℕ → Call
 on_bytes (Read offset count) fd = calls.Read fd offset count
 on_bytes (Write offset bytes) fd = calls.Write fd offset bytes.now
 on_bytes (Resize size) fd = calls.Ftruncate fd size
 
--- the call that asks this, on the descriptor of the number
+-- the call for this operation, on the descriptor with this number
 abbrev pub on_file : FileCall → ℕ → Call
 on_file Close fd = calls.Close fd
 on_file (OnBytes asked) fd = on_bytes asked fd
 
--- it is this call on the descriptor of the number, or on none
+-- it is this call on the descriptor with this number, or a call on no descriptor
 abbrev pub IsOn : Call → Option (ℕ × FileCall) → Type 0
 IsOn call None = descriptor_of call ≡ None
 IsOn call (Some asked) = call ≡ on_file asked.1 asked.0
 
--- In each tree where the caller has this descriptor and its file these bytes, the call on the descriptor's number is so
--- answered, and the file then has those
+-- In each tree where the caller has this descriptor and the file these bytes, the call gets this reply, and the file
+-- then has the bytes `after`
 abbrev pub ComesOn : Descriptor → (ℕ → Call) → List ℕ → Reply → List ℕ → Type 0
 ComesOn file call bytes reply after =
     (s : State) (number fresh fd : ℕ) → get (client_of s number).descriptors fd ≡ Some file
     → bytes_of s file.inode ≡ bytes → step s number (call fd) fresh ≡ (reply, with_bytes s file.inode after)
 
--- nothing refuses the call on the descriptor's number, in each tree where the caller has this descriptor
+-- nothing refuses the call in any tree where the caller has this descriptor
 abbrev pub IsFreeOn : Descriptor → (ℕ → Call) → Type 0
 IsFreeOn file call =
     (s : State) (number fd : ℕ) → get (client_of s number).descriptors fd ≡ Some file
     → refusals s (client_of s number) (call fd) ≡ []
 
--- without the descriptor
+-- the client without the descriptor
 abbrev pub unopened : ClientRecord → ℕ → ClientRecord
 unopened c number = record c { descriptors = remove c.descriptors number }
 
--- The inode has a descriptor less in the table, and where nothing keeps its node the slot is vacant
+-- The inode has one descriptor less in the table. If nothing keeps its node, the slot is vacant
 pub record LetsGo (inode : ℕ) (t t' : Table) (file file' : Held) : Type 0 where
   pub goes : Bool
   pub table :
@@ -72,8 +72,7 @@ pub record LetsGo (inode : ℕ) (t t' : Table) (file file' : Held) : Type 0 wher
       → t'.free ≡ (if goes then t.free ++ slot ∷ [] else t.free)
   pub lent : file' ≡ (if goes then vacant else file)
 
--- what is answered to a call on the file that is open under the number, and what becomes of the seat, the table and the
--- file's slot
+-- the reply to a call on the file open under this number, and the seat, the table and the file's slot afterwards
 abbrev pub Serves : ℕ → Descriptor → FileCall → Seat → Table → Held → Reply → Seat → Table → Held → Type 0
 Serves number held Close seat t file reply seat' t' file' =
     (reply ≡ Done) × (seat' ≡ record seat { client = unopened seat.client number }) × LetsGo file.inode t t' file file'

@@ -1,4 +1,5 @@
--- What the journal keeps beside the history, and how it is tied to the shown state. No public contract cites it. own
+-- What the journal stores in addition to the history, and how that agrees with the visible tree. No public contract
+-- cites it. own
 use Rattle.std.specs.Prelude.{◌≡◌, ℕ, zero, suc, ◌+◌, ◌≤◌, List, [], ◌∷◌, map, length, Option, None, option_map}
 use Rattle.std.specs.Prelude.{slice_get}
 use Rattle.std.specs.Option.{option_map_or}
@@ -13,14 +14,14 @@ use Rattle.ll_laws.specs.World.{World, shown}
 use Rattle.ll_laws.specs.Sound.{IsSound}
 use Rattle.ll_journal.specs.Book.{Seat, Book}
 
--- the walks that are under way; the first seat is that of the client of this number
+-- the walks under way; the first seat is that of the client with this number
 abbrev pub walks_from : ℕ → List Seat → Map nat_cmp Walk
 walks_from number [] = empty
 walks_from number (seat ∷ seats) =
     let others = walks_from (number + 1) seats in
     option_map_or (λ (walk : Walk). insert others number walk) seat.walk others
 
--- the seat of the client of this number
+-- the seat of the client with this number
 abbrev pub seat_at : List Seat → ℕ → Option Seat
 seat_at seats zero = None
 seat_at seats (suc place) = slice_get seats place
@@ -35,7 +36,7 @@ world_of j = record {
   gate = j.gate;
 }
 
--- the slots that are kept for what clients make
+-- the spare slots of all seats
 abbrev pub spares_of : List Seat → List ℕ
 spares_of seats = map (λ (seat : Seat). seat.spare) seats
 
@@ -47,12 +48,12 @@ book_of j = record {
   spares = spares_of j.seats.items;
 }
 
--- each client of the tree has its seat, and no other number has one
+-- each client of the tree has its seat, and nobody else has one
 abbrev pub AreSeated : State → List Seat → Type 0
 AreSeated s seats =
     (number : ℕ) → get s.clients number ≡ option_map (λ (seat : Seat). seat.client) (seat_at seats number)
 
--- The table of inodes is that of the shown state. Each entry makes one node at most
+-- The table of inodes is the visible tree's. Each entry creates at most one node
 pub record IsKept (j : Inside) : Type 0 where
   pub sound : IsSound (world_of j)
   pub seated : AreSeated (shown (world_of j)) j.seats.items

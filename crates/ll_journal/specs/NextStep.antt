@@ -14,8 +14,8 @@ use Rattle.ll_journal.specs.Stations.{station_in}
 use Rattle.ll_journal.specs.Steps.{IsInTurn, IsNext}
 use Rattle.ll_journal.specs.WalkEnds.{AreEnough, IsNeeded, is_lent}
 
--- The client's walk goes on, but its leg in turn can't, or each branch is at its end; and these are all the slots that
--- its commit may need, and no others
+-- The client's walk isn't stale, and its leg in turn can't go on or each branch is at its end. These are exactly the
+-- slots that its commit may need
 pub record IsAtStop (b : Book) (number : ℕ) (slots : List ℕ) : Type 0 where
   pub walk : Walk
   pub leg : Leg
@@ -26,7 +26,7 @@ pub record IsAtStop (b : Book) (number : ℕ) (slots : List ℕ) : Type 0 where
   pub enough : AreEnough b number walk slots
   pub only : AllByRecursion (IsNeeded b number walk) slots
 
--- This step of the client's walk comes next, with these slots: one of the six at most, where its leg in turn stands in
+-- This step of the client's walk comes next, with these slots. It is at most one of the six if the leg in turn is in
 -- the slot's directory
 abbrev pub ComesNext : Book → ℕ → ℕ → Next → Type 0
 ComesNext b number slot next.Nothing = station_in b.world number ≡ station.Idle
@@ -37,13 +37,13 @@ ComesNext b number slot (next.Descend to) = IsNext b number slot to
 ComesNext b number slot next.Fork = station_in b.world number ≡ station.Fork
 ComesNext b number slot (next.Commit slots) = IsInTurn b number slot → IsAtStop b number slots
 
--- the slots are there, each once, and at most so many
+-- the slots exist, each occurs once, and there are at most this many
 pub record AreLendable (b : Book) (most : ℕ) (slots : List ℕ) : Type 0 where
   pub distinct : AreDistinct slots
   pub within : AllByRecursion (λ slot. slot < length b.inodes) slots
   pub few : length slots ≤ most
 
--- what the step needs can be lent
+-- the slots that the step needs can be lent
 abbrev pub CanBeLent : Book → Next → Type 0
 CanBeLent b next.Nothing = ⊤
 CanBeLent b (next.Restart slots) = AreLendable b 3 slots

@@ -29,25 +29,27 @@ Asks c call' (Ruleset rights) = call' ≡ call.Ruleset rights
 Asks c call' (Confine number) = call' ≡ call.Confine number
 Asks c call' (Refused errno) = (is_alone c call' ≡ true) × (slice_get (early_refusals c call') 0 ≡ Some errno)
 
--- it is such a call, or none that a client makes for itself alone
+-- it is such a call; or None, and not one that a client makes for itself alone
 abbrev pub IsOwn : ClientRecord → Call → Option Own → Type 0
 IsOwn c call' None = is_alone c call' ≡ false
 IsOwn c call' (Some Spawn) = call' ≡ call.Spawn
 IsOwn c call' (Some (OnRecord asked)) = Asks c call' asked
 
--- In each tree of this ABI level where the caller has this record the call is so answered, and leaves the other record
+-- in each tree of this ABI level where the caller has this record, the call gets this reply and leaves the record
+-- `after`
 abbrev pub Comes : ℕ → ClientRecord → RecordCall → Reply → ClientRecord → Type 0
 Comes abi c asked reply after =
     (call' : Call) → Asks c call' asked → (s : State) (number fresh : ℕ) → s.rules.abi ≡ abi
     → get s.clients number ≡ Some c → step s number call' fresh ≡ (reply, with_client s number after)
 
--- in each such tree nothing refuses the call
+-- nothing refuses the call in any such tree
 abbrev pub IsFreeOwn : ℕ → ClientRecord → RecordCall → Type 0
 IsFreeOwn abi c asked =
     (call' : Call) → Asks c call' asked → (s : State) (number : ℕ) → s.rules.abi ≡ abi
     → get s.clients number ≡ Some c → refusals s c call' ≡ []
 
--- the child of the client at the place has the last seat, and the last of the free slots; its descriptors are counted
+-- The child of the client at this place gets the last seat and the last of the free slots, and its descriptors are
+-- counted
 pub record Spawns
     (rules : Rules) (place : ℕ) (seats : List Seat) (table : Table) (number : ℕ)
     (seats' : List Seat) (table' : Table) : Type 0 where
@@ -62,7 +64,7 @@ pub record Spawns
       → has s.clients number ≡ false → AreKept (with_client s number (child_of rules parent.client)) table'.facts
   pub rest-is : table' ≡ record table { facts = table'.facts; free = table'.free }
 
--- as many clients as may be, or one more
+-- a spawn is refused if there are as many clients as may be; else there is one more
 abbrev pub SpawnTells : Rules → ℕ → List Seat → Table → List Seat → Table → Reply → Type 0
 SpawnTells rules place seats table seats' table' reply =
     ((TREE_CLIENTS ≤ length seats) × (reply ≡ replies.Refused EMFILE) × (seats' ≡ seats) × (table' ≡ table))

@@ -1,4 +1,4 @@
--- A call at its walk's ends: what is given for it, and what comes of it. No public contract cites it. own
+-- A call at its walk's ends: what is given for it, and its result. No public contract cites it. own
 use Rattle.std.specs.Prelude.{◌≡◌, ◌≢◌, ℕ, true, ◌==◌, List, [], Some, slice_index_or}
 use Rattle.std.specs.List.{list_any}
 use Rattle.ll_seq.specs.Found.{AreFacts}
@@ -22,22 +22,21 @@ use Rattle.ll_journal.specs.declared.seat.Ended.{Ended}
 use Rattle.ll_journal.specs.Book.{Seat}
 use Rattle.ll_journal.specs.Decidings.{IsEndAt}
 
--- what is left of the walk: its call, and what each layer grants where its branches stood
+-- what is left of the walk: its call, and the rights that each layer grants where its branches ended
 pub record EndsAs (domain : List Layer) (walk : Walk) (ended : Ended) : Type 0 where
   pub call : ended.call ≡ walk.call
   pub first : (leg : Leg) → first_end walk.at ≡ Some leg → AreMasks ended.first domain leg.chain
   pub second : (leg : Leg) → second_end walk.at ≡ Some leg → AreMasks ended.second domain leg.chain
 
--- what the client of the seat has in hand
+-- what the client in this seat has in hand
 abbrev pub at_seat : Seat → Table → List ℕ → List Held → InHand
 at_seat seat table slots lent = in_hand seat.client seat.spare table slots lent
 
--- the inode lies in one of the slots that are lent
+-- the inode is in one of the lent slots
 abbrev pub lies_in : InHand → ℕ → Type 0
 lies_in hand i = list_any (λ k. slice_index_or hand.table.inodes k 0 == i) hand.slots ≡ true
 
--- A tree where this was found at the ends of the client's walk, and where the slots that are lent are enough for its
--- call
+-- this was found at the ends of the client's walk, and the lent slots are enough for its call
 pub record IsAtEnd (scene : Scene) (hand : InHand) (walk : Ended) (found : Found) : Type 0 where
   pub given : IsGiven scene hand
   pub path : has_path walk.call ≡ true
@@ -50,7 +49,7 @@ pub record IsAtEnd (scene : Scene) (hand : InHand) (walk : Ended) (found : Found
   pub nodes : (inode : ℕ) → is_in (nodes_of walk.call found) inode ≡ true → inode ≢ 0 → lies_in hand inode
   pub kept : may_make walk.call found ≡ true → is_in hand.slots hand.spare ≡ true
 
--- nothing refuses the call, in whichever tree its walk has ended so
+-- nothing refuses the call, in any tree where its walk ended like this
 abbrev pub IsFreeAtEnd : InHand → Ended → Found → Type 0
 IsFreeAtEnd hand walk found =
     (scene : Scene) → IsAtEnd scene hand walk found
@@ -62,7 +61,7 @@ pub record IsPerformed (scene : Scene) (hand : InHand) (call : Call) (reply : Re
   pub steps : (fresh : ℕ) → ◌≡◌ {A = Reply × State} (step scene.state scene.number call fresh) (reply, after)
   pub made : IsMade scene after hand new
 
--- so in each tree where its walk has ended so
+-- in each tree where its walk ended like this
 abbrev pub Performs : InHand → Ended → Found → Reply → InHand → Type 0
 Performs hand walk found reply new =
     (scene : Scene) → IsAtEnd scene hand walk found → IsPerformed scene hand walk.call reply new

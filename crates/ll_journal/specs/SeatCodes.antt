@@ -1,4 +1,4 @@
--- Codes, by which a client with its walk, and the journal's book, can be a model's value.
+-- Codes with which a client with its walk, and the journal's book, can be a model's value.
 use Rattle.std.specs.Prelude.{◌≡◌, ℕ, Bool, List, [], ◌∷◌, Option, refl}
 use Rattle.std.specs.Ordering.{nat_cmp}
 use Rattle.std.specs.Coded.{Coded, code_by, coded×, coded_list, coded_option, coded_bool, coded_ℕ}
@@ -28,7 +28,7 @@ coded_leg =
     (λ l. (l.walked, (l.ahead, (l.chain, (l.here, l.masks)))))
     (λ p. record { walked = p.0; ahead = p.1.0; chain = p.1.1.0; here = p.1.1.1.0; masks = p.1.1.1.1 }) (λ _. refl)
 
--- the position of these legs
+-- the position with these legs
 abbrev pub position_of : List Leg → Position
 position_of [] = Above
 position_of (trunk ∷ []) = Down trunk

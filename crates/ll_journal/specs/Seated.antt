@@ -25,11 +25,11 @@ use Rattle.ll_journal.specs.declared.stage.Turn.TheVariants as turns
 use Rattle.ll_journal.specs.declared.seat.Seat.TheInside.{Inside}
 use Rattle.ll_journal.specs.Book as book
 
--- what each layer grants on the chain
+-- the rights that each layer grants on the chain
 abbrev pub granted : List Layer → List ℕ → List Mask
 granted domain chain = map (λ layer. rights_where (grants_on layer chain)) domain
 
--- how many names lead to the last of the chain
+-- the number of names that lead to the last inode of the chain
 abbrev pub depth_of : List ℕ → ℕ
 depth_of chain = length chain - 1
 
@@ -65,20 +65,19 @@ seat_of seat = record {
   }) seat.call;
 }
 
--- What is kept of the names ahead, once so many names of the path are taken: where the next one begins, and how many
--- the path has
+-- The names ahead, after this many names of the path were taken: where the next name begins, and how many the path has
 pub record IsAhead (path : Path) (taken : ℕ) (ahead : Ahead) : Type 0 where
   pub place : IsPlace path ahead.place
   pub depth : ahead.place.depth ≡ taken
   pub len : ahead.len ≡ length path
 
--- a leg that stands somewhere on the path; its masks are those of its chain
+-- a leg somewhere on the path, whose masks are its chain's
 pub record Fits (domain : List Layer) (path : Path) (leg : kept.Leg) : Type 0 where
   pub some : 0 < length leg.chain.items
   pub masks : AreMasks leg.masks domain leg.chain.items
   pub ahead : IsAhead path (depth_of leg.chain.items) leg.ahead
 
--- and so do the three past the fork
+-- the three legs past the fork do so
 pub record FitSplit (seat : Inside) (call : Call) : Type 0 where
   pub trunk : Fits seat.client.domain (trunk_path call) seat.trunk
   pub first : Fits seat.client.domain (parent (first_path call)) seat.first
@@ -89,7 +88,7 @@ FitAt stage.Above seat call = ⊤
 FitAt stage.Down seat call = Fits seat.client.domain (trunk_path call) seat.trunk
 FitAt stage.Split seat call = FitSplit seat call
 
--- a chain is as long as a path at most
+-- a chain is at most as long as a path
 abbrev pub AreShort : Call → Type 0
 AreShort call = (length (first_path call) ≤ PATH_NAMES) × (length (second_path call) ≤ PATH_NAMES)
 
@@ -97,7 +96,7 @@ AreShort call = (length (first_path call) ≤ PATH_NAMES) × (length (second_pat
 abbrev pub IsRoomy : kept.Leg → Type 0
 IsRoomy leg = PATH_NAMES ≤ vec_capacity leg.chain
 
--- the leg has come so far
+-- the leg has taken this chain
 pub record StandsAt (domain : List Layer) (inodes : List ℕ) (leg : kept.Leg) : Type 0 where
   pub chain : leg.chain.items ≡ inodes
   pub masks : AreMasks leg.masks domain inodes
@@ -117,7 +116,7 @@ pub record IsSeat (seat : Inside) : Type 0 where
 
 -- ---- What a walk does in its seat
 
--- the names of the path, none where there is no path
+-- the names of the path, or none without a path
 abbrev pub names_in : Option (Bor Path) → Path
 names_in None = []
 names_in (Some path) = path.now
@@ -125,11 +124,11 @@ names_in (Some path) = path.now
 abbrev pub none_left : Ahead → Bool
 none_left ahead = ahead.place.depth == ahead.len
 
--- the next name, of a leg that goes some way on this path
+-- the next name of a leg on this path
 abbrev pub name_on : Path → Ahead → Option Name
 name_on path ahead = if none_left ahead then None else slice_get path ahead.place.depth
 
--- which leg is in turn, by whether the first path's is at its end
+-- which leg is in turn, depending on whether the first path's is at its end
 abbrev pub turn_at : Stage → Bool → Turn
 turn_at stage.Above is_first_ended = turns.No
 turn_at stage.Down is_first_ended = turns.Trunk
@@ -142,19 +141,19 @@ next_of at = option_and_then (λ (leg : Leg). slice_get leg.ahead 0) (turn at)
 abbrev pub next_in : book.Seat → Option Name
 next_in seat = option_and_then (λ (walk : Walk). next_of walk.at) seat.walk
 
--- where the leg in turn stands
+-- the directory where the leg in turn is
 abbrev pub here_in : book.Seat → Option ℕ
 here_in seat = option_and_then (λ (walk : Walk). option_map (λ (leg : Leg). leg.here) (turn walk.at)) seat.walk
 
 abbrev pub entered : List Layer → Walk → Walk
 entered domain walk = record walk { at = Down (first_leg domain (trunk_path walk.call)) }
 
--- with these names ahead
+-- the leg in this directory, after it took the first of these names
 abbrev pub lower : List Layer → ℕ → Leg → Path → Leg
 lower domain inode leg [] = leg
 lower domain inode leg (name ∷ rest) = leg_below domain leg name rest inode
 
--- the leg in turn has taken its next name
+-- the walk after its leg in turn took its next name
 abbrev pub gone_down : List Layer → ℕ → Walk → Walk
 gone_down domain inode walk =
     option_map_or (λ (leg : Leg). record walk { at = with_turn walk.at (lower domain inode leg leg.ahead) })
@@ -166,7 +165,7 @@ split walk = record walk { at = unwrap_or (forked walk.call walk.at) walk.at }
 abbrev pub again : Walk → Walk
 again walk = record walk { starts = walk.starts + 1; stale = false; at = Above }
 
--- ---- What a commit asks of a seat
+-- ---- What a commit needs to know of a seat
 
 -- the call whose walk is under way
 abbrev pub call_in : book.Seat → Option Call
@@ -176,7 +175,7 @@ call_in seat = option_map (λ (walk : Walk). walk.call) seat.walk
 abbrev pub is_at_ends : book.Seat → Bool
 is_at_ends seat = option_map_or (λ (walk : Walk). at_ends walk.call walk.at) seat.walk false
 
--- where the legs of the call's first and second path stand
+-- where the legs of the call's first path and second path are
 abbrev pub first_here_in : book.Seat → Option ℕ
 first_here_in seat =
     option_and_then (λ (walk : Walk). option_map (λ (leg : Leg). leg.here) (first_end walk.at)) seat.walk

@@ -1,4 +1,4 @@
--- The tree that lies in the slots: the state that is read off what they hold. own
+-- The tree in the slots: the state that can be read from what they hold. own
 use Rattle.std.specs.Prelude.{◌≡◌, ℕ, ◌+◌, ◌==◌, not, List, [], ◌∷◌, map, filter, length}
 use Rattle.std.specs.declared.cmp.Ordering.{Ordering}
 use Rattle.std.specs.List.{flat_map, range_with_len}
@@ -15,29 +15,29 @@ use Rattle.ll_node.specs.Lent.{AreApart}
 use Rattle.ll_laws.specs.World.{World, shown}
 use Rattle.ll_journal.specs.Book.{Book, slot_of}
 
--- of each slot what has to lie in it, in their order
+-- what each slot must hold, in their order
 abbrev pub accounts_of : Book → List Held
 accounts_of b = map (slot_of b) (range_with_len 0 (length b.inodes))
 
--- the map of these keys and values
+-- the map with these keys and values
 abbrev pub map_of : {K X : Type 0} {R : K → K → Ordering} → List (K × X) → Map R X
 map_of [] = empty
 map_of (e ∷ es) = insert (map_of es) e.0 e.1
 
--- without the vacant ones
+-- the slots that aren't vacant
 abbrev pub taken : List Held → List Held
 taken slots = filter (λ (held : Held). not (held.inode == 0)) slots
 
--- the node that lies in a slot, under its inode
+-- the node in a slot, with its inode
 abbrev pub node_in : Held → ℕ × Node
 node_in held = (held.inode, record { kind = held.node.kind; bytes = held.node.bytes })
 
--- the entries of the directory that lies in a slot
+-- the entries of the directory in a slot
 abbrev pub entries_in : Held → List (Dentry × ℕ)
 entries_in held = map (λ (e : Name × ℕ). (dentry held.inode e.0, e.1)) (entries held.node.names)
 
--- The state whose nodes and entries are those in the slots. Its rules, its room, the next inode and the clients lie in
--- no slot, and are given
+-- The state whose nodes and entries are those in the slots. Its rules, its room, the next inode and the clients aren't
+-- in slots, and are given
 abbrev pub state_in : Rules → ℕ → ℕ → Map nat_cmp ClientRecord → List Held → State
 state_in rules room next clients slots = record {
   entries = map_of (flat_map entries_in (taken slots));
@@ -48,8 +48,8 @@ state_in rules room next clients slots = record {
   clients = clients;
 }
 
--- As many slots as nodes may live, and one more for each client. No inode lies in two. What lies in them is the shown
--- tree, all of it
+-- There is a slot for each node that may be alive, and one more for each client. No inode is in two slots. They hold
+-- exactly the visible tree
 pub record HoldTree (slots : List Held) (w : World) : Type 0 where
   pub size : length slots ≡ w.room + TREE_CLIENTS
   pub apart : AreApart slots

@@ -1,4 +1,4 @@
--- What becomes of a call that its client makes. own
+-- The outcome of a call when its client makes it. own
 use Rattle.std.specs.Prelude.{◌≡◌, ℕ}
 use Rattle.ll_seq.specs.declared.call.Call.{Call}
 use Rattle.ll_laws.specs.World.{Begun, NotNow, advance}
@@ -8,7 +8,8 @@ use Rattle.ll_journal.specs.declared.start.Start.TheVariants as start
 use Rattle.ll_journal.specs.Book.{Book}
 use Rattle.ll_journal.specs.Direct.{Answers}
 
--- It is made by the client's own step; or that isn't enabled, and its walk begins; or neither step is enabled
+-- The client's own step makes the call; or that step isn't enabled, and the call's walk begins; or neither step is
+-- enabled
 abbrev pub Starts : Book → ℕ → Call → Start → Book → Type 0
 Starts b client call (start.Made answer) b' = Answers b (ClientStep client call) answer b'
 Starts b client call start.Begun b' =

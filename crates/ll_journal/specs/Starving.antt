@@ -1,4 +1,4 @@
--- Where memory may run out: the step would be answered, and by no refusal. own
+-- When memory may run out: the step would be answered, and not by a refusal. own
 use Rattle.std.specs.Prelude.{◌≡◌, ℕ, Bool, true, false, not, Some}
 use Rattle.ll_seq.specs.declared.call.Call.{Call}
 use Rattle.ll_seq.specs.declared.reply.Reply.{Reply}
@@ -13,13 +13,13 @@ is_refusal (Refused errno) = true
 is_refusal (Denied denial) = true
 is_refusal _ = false
 
--- answered, and by no refusal
+-- answered, and not by a refusal
 abbrev pub succeeds : Outcome → Bool
 succeeds (Replied reply) = not (is_refusal reply)
 succeeds (Joined number) = true
 succeeds other = false
 
--- The call of the step may find no memory in the tree that all see; the history has room, and the step would succeed
+-- the step's call may find no memory in the visible tree; the history has room, and the step would succeed
 pub record Starves (w : World) (step' : Step) : Type 0 where
   pub client : ℕ
   pub call : Call

@@ -9,7 +9,7 @@ use Rattle.ll_laws.specs.World.{World}
 use Rattle.ll_journal.specs.declared.station.Station.{Station}
 use Rattle.ll_journal.specs.declared.station.Station.TheVariants as station
 
--- by the names that are ahead
+-- by the names ahead
 abbrev pub station_at : Call → Position → Station
 station_at call Above = station.Above
 station_at call (Down trunk) =

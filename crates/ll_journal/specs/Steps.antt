@@ -1,4 +1,4 @@
--- What a step of the journal does, and where other slots were lent than it names. own
+-- What a step of the journal does, and when the lent slots aren't those that it names. own
 use Rattle.std.specs.Prelude.{◌≡◌, ◌≢◌, ℕ, Bool, true, false, not, List, map, Option, Some, option_and_then}
 use Rattle.std.specs.Option.{option_map_or}
 use Rattle.ll_rights.specs.Map.{get}
@@ -11,7 +11,7 @@ use Rattle.ll_journal.specs.declared.progress.Progress.{Progress}
 use Rattle.ll_journal.specs.declared.progress.Progress.TheVariants as progress
 use Rattle.ll_journal.specs.Book.{Book, inode_in}
 
--- What is told is the step's outcome, and so is the world after. Astray is none of its outcomes: then nothing changes
+-- The outcome and the world are the step's. Astray is no outcome of a step: then nothing changes
 abbrev pub Does : Book → Step → Progress → Book → Type 0
 Does b step' progress.NotNow b' = advance b.world step' ≡ (world.NotNow, b'.world)
 Does b step' progress.Astray b' = b' ≡ b
@@ -26,7 +26,7 @@ is_at_top w number = option_map_or (λ (walk : Walk). is_above walk.at) (get w.w
 abbrev pub leg_in_turn : World → ℕ → Option Leg
 leg_in_turn w number = option_and_then (λ (walk : Walk). turn walk.at) (get w.walks number)
 
--- the client's leg in turn, if there is one, stands in the directory of the slot
+-- the client's leg in turn, if any, is in the slot's directory
 abbrev pub IsInTurn : Book → ℕ → ℕ → Type 0
 IsInTurn b number slot = (leg : Leg) → leg_in_turn b.world number ≡ Some leg → inode_in b slot ≡ leg.here
 
@@ -39,21 +39,21 @@ abbrev pub IsAstrayAtTop : Book → ℕ → ℕ → Type 0
 IsAstrayAtTop b number slot =
     (is_going b.world number ≡ true) × (is_at_top b.world number ≡ true → inode_in b slot ≢ root)
 
--- The walk goes on. If its leg in turn stands in the directory of the first slot, there is a directory to go to, and
--- the second slot isn't that one's
+-- The walk goes on. If its leg in turn is in the directory of the first slot, it has a directory to go to, and the
+-- second slot isn't that one's
 abbrev pub IsAstrayBelow : Book → ℕ → ℕ → ℕ → Type 0
 IsAstrayBelow b number from to =
     (is_going b.world number ≡ true)
     × ((leg : Leg) → leg_in_turn b.world number ≡ Some leg → inode_in b from ≡ leg.here →
     (next : Leg) × (further (shown b.world) (domain_of b.world number) leg ≡ Some next) × (inode_in b to ≢ next.here))
 
--- the walk is stale, and stands in some directory that lies in none of the slots
+-- the walk is stale, and is in some directory whose slot isn't lent
 abbrev pub IsAstrayAt : Book → ℕ → List ℕ → Type 0
 IsAstrayAt b number slots =
     (walk : Walk) × (get b.world.walks number ≡ Some walk) × (walk.stale ≡ true)
     × ¬ ((inode : ℕ) → marks walk inode ≡ true → is_in (map (inode_in b) slots) inode ≡ true)
 
--- the client's leg in turn stands in the slot's directory, and would go down from there to another
+-- the client's leg in turn is in the slot's directory, and would go down from there
 pub record GoesDown (b : Book) (number from : ℕ) : Type 0 where
   pub going : is_going b.world number ≡ true
   pub leg : Leg
@@ -62,7 +62,7 @@ pub record GoesDown (b : Book) (number from : ℕ) : Type 0 where
   pub further_is : further (shown b.world) (domain_of b.world number) leg ≡ Some next
   pub from_here : inode_in b from ≡ leg.here
 
--- the client's leg in turn stands in the one slot's directory, and would go to that of the other slot
+-- the client's leg in turn is in the directory of slot `from`, and would go to that of slot `to`
 pub record IsNext (b : Book) (number from to : ℕ) : Type 0 where
   pub going : is_going b.world number ≡ true
   pub leg : Leg

@@ -1,4 +1,4 @@
--- What it means that a commit stops so. No public contract cites it. own
+-- What each reason for stopping a commit means. No public contract cites it. own
 use Rattle.std.specs.Prelude.{◌≡◌, ◌≢◌, ℕ, true, List, Some, None}
 use Rattle.ll_rights.specs.declared.errno.Errno.{Errno}
 use Rattle.ll_rights.specs.declared.kind.Kind.TheVariants.{Dir}
@@ -22,7 +22,7 @@ use Rattle.ll_journal.specs.CommitCheck as stops
 use Rattle.ll_journal.specs.Book.{Book}
 use Rattle.ll_journal.specs.WalkEnds.{IsAstrayAtEnd, is_lent, spare_of}
 
--- the client's walk may be answered, and the directories where it stands are lent
+-- the client's walk may be answered, and the directories where it is are lent
 pub record MayEnd (b : Book) (number : ℕ) (slots : List ℕ) (walk : Walk) : Type 0 where
   pub is : get b.world.walks number ≡ Some walk
   pub may : may_commit b.world number walk ≡ true

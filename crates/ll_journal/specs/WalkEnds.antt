@@ -1,4 +1,4 @@
--- What comes of a commit, and which slots it needs. own
+-- The outcome of a commit, and which slots it needs. own
 use Rattle.std.specs.Prelude.{◌≡◌, ◌⊎◌, ℕ, ◌-◌, Bool, true, false, List, [], map, is_none, Some, slice_index_or, ◌∷◌}
 use Rattle.std.specs.Prelude.{◌++◌, slice_set}
 use Rattle.ll_rights.specs.Map.{get, has}
@@ -21,8 +21,8 @@ use Rattle.ll_journal.specs.Book.{Book, inode_in}
 use Rattle.ll_journal.specs.Direct.{FreesSlot}
 use Rattle.ll_journal.specs.Starving.{Starves}
 
--- The outcome is the step's, and so is the world after. Astray is none of its outcomes: then nothing changes. Where
--- memory runs out, for a call that nothing refuses, the walk has ended all the same
+-- The outcome and the world are the step's. Astray is no outcome of a step: then nothing changes. If memory runs out,
+-- for a call that nothing refuses, the walk ends without an answer in the history
 abbrev pub Ends : Book → ℕ → Ending → Book → Type 0
 Ends b number ending.NotNow b' = advance b.world (Commit number) ≡ (world.NotNow, b'.world)
 Ends b number ending.Astray b' = b' ≡ b
@@ -31,7 +31,7 @@ Ends b number (ending.Replied reply) b' =
 Ends b number ending.HistoryFull b' = advance b.world (Commit number) ≡ (world.Replied (Refused HistoryFull), b'.world)
 Ends b number ending.NoMemory b' = Starves b.world (Commit number) × (b'.world ≡ without_walk b.world number)
 
--- the nodes under last names that the call may change or tell of
+-- the nodes with last names of its paths that the call may change or report on
 abbrev pub nodes_at_end : State → Call → List ℕ
 nodes_at_end s (call.Make kind target) = []
 nodes_at_end s (call.Open mode target) = last_node s (path_of target)
@@ -55,7 +55,7 @@ nodes_at_end s (call.Confine number) = []
 nodes_at_end s call.Spawn = []
 nodes_at_end s call.Connect = []
 
--- the call makes a node, unless something refuses it
+-- the call creates a node, unless something refuses it
 abbrev pub would_make : State → Call → Bool
 would_make s (call.Make kind target) = true
 would_make s (call.Open mode target) = is_none (named s (path_of target))
@@ -79,16 +79,16 @@ would_make s (call.Confine number) = false
 would_make s call.Spawn = false
 would_make s call.Connect = false
 
--- the slot that is kept for what the client makes
+-- the slot reserved for the client
 abbrev pub spare_of : Book → ℕ → ℕ
 spare_of b number = slice_index_or b.spares (number - 1) 0
 
--- the inode lies in one of the slots
+-- the inode is in one of the slots
 abbrev pub is_lent : Book → List ℕ → ℕ → Bool
 is_lent b slots inode = is_in (map (inode_in b) slots) inode
 
--- All that the walk's commit may need: the directories where it stands, and at its ends those nodes, and the spare slot
--- where it would make one
+-- All slots that the walk's commit may need: those of the directories where it is. At its ends also those of the nodes
+-- above, and the spare slot if it would create a node
 pub record AreEnough (b : Book) (number : ℕ) (walk : Walk) (slots : List ℕ) : Type 0 where
   pub marked : (inode : ℕ) → marks walk inode ≡ true → is_lent b slots inode ≡ true
   pub nodes :
@@ -110,25 +110,25 @@ abbrev pub IsAstrayAtEnd : Book → ℕ → List ℕ → Type 0
 IsAstrayAtEnd b number slots =
     (walk : Walk) × (get b.world.walks number ≡ Some walk) × (walk.stale ≡ false) × ¬ AreEnough b number walk slots
 
--- the client's walk is that of a call that takes memory
+-- the walk's call takes memory
 abbrev pub MayTakeMemory : World → ℕ → Type 0
 MayTakeMemory w number = (walk : Walk) × (get w.walks number ≡ Some walk) × (takes_memory walk.call ≡ true)
 
--- the client's walk is that of a call that would make a node
+-- the walk's call would create a node
 abbrev pub MayMake : World → ℕ → Type 0
 MayMake w number = (walk : Walk) × (get w.walks number ≡ Some walk) × (would_make (shown w) walk.call ≡ true)
 
--- the call takes a name away, or may give it to another node
+-- the call removes a name, or may give it to another node
 abbrev pub TakesName : Call → Type 0
 TakesName call' =
     ((target : Target) × (call' ≡ call.Unlink target)) ⊎ ((target : Target) × (call' ≡ call.Rmdir target))
     ⊎ ((from : Target) × (into : Target) × (call' ≡ call.Rename from into))
 
--- the client's walk is that of a call that may take away the last name of a node
+-- the walk's call may remove the last name of a node
 abbrev pub MayLetGo : World → ℕ → Type 0
 MayLetGo w number = (walk : Walk) × (get w.walks number ≡ Some walk) × TakesName walk.call
 
--- A node was made: it lies in the client's spare slot, and the last of the free slots is its spare now
+-- A node was created: it is in the client's old spare slot, and the last of the free slots is its new spare
 pub record MakesNode (b b' : Book) (number : ℕ) : Type 0 where
   pub may : MayMake b.world number
   pub slot : ℕ
@@ -137,7 +137,7 @@ pub record MakesNode (b b' : Book) (number : ℕ) : Type 0 where
   pub free : b.free ≡ b'.free ++ slot ∷ []
   pub spares : b'.spares ≡ slice_set b.spares (number - 1) slot
 
--- Beside the world nothing changes, unless a node is made, or one goes that lies in one of the slots
+-- Apart from the world nothing changes, unless a node is created, or one in these slots is removed
 abbrev pub LeavesFree : Book → ℕ → List ℕ → Book → Type 0
 LeavesFree b number slots b' =
     (b' ≡ record b { world = b'.world }) ⊎ MakesNode b b' number

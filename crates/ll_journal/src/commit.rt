@@ -147,9 +147,9 @@ impl Journal {
         Ending::Replied(copy)
     }
 
-    /// Answers the client's walk. `lent` holds the contents of `slots`: those of the directories that the walk has
-    /// marked, of the node that the call may change or report, and the client's spare slot if the call would create a
-    /// node. The walk ends unless the result is NotNow or Astray. Only calls that add something take memory.
+    /// Answers the client's walk. `lent` holds the contents of `slots`: of the directories that the walk has marked,
+    /// and of the node which the call may change or report. If the call would create a node, they include the client's
+    /// spare slot. The walk ends unless the result is NotNow or Astray. Only calls that add something take memory.
     pub fn commit(&mut self, client: u64, slots: &[u64], lent: &mut [Held]) -> Ending
         requires distinct { AreDistinct slots.now }
         requires lent { lent.old ≡ map (slot_of self.old) slots.now }

@@ -6,7 +6,7 @@ ghost use Rattle.ll_laws.specs.Walk as walks;
 use crate::way::has_two_paths;
 use ll_seq::Call;
 
-/// Where a client's walk is, as far as that is known without a look at a directory.
+/// Where a client's walk is, if it can be known without a look at a directory.
 #[derive(Clone, Copy, PartialEq, Eq)]
 pub enum Station {
     /// No walk is under way.

@@ -1,4 +1,4 @@
--- What a commit may rely on besides: where a walk stands then, and the answer of one that can't go on. own
+-- What a commit may also rely on: where a walk is then, and the answer of one that can't go on. own
 use Rattle.std.specs.Prelude.{◌≡◌, ◌∷◌, [], false, true, Option, Some, None, slice_get}
 use Rattle.ll_rights.specs.declared.errno.Errno.{Errno}
 use Rattle.ll_path.specs.Path.{Path, parent}
@@ -11,7 +11,7 @@ use Rattle.ll_laws.specs.Walk.{Leg, Position, Above, Down, Split, turn, at_ends}
 use Rattle.ll_laws.specs.World.{shown, reply_to}
 use Rattle.ll_laws.specs.Walks.{AfterSteps, OfWalks}
 
--- the legs of the call's first and second path; with one path they are one
+-- the legs of the call's first and second path. With one path they are the same leg
 abbrev pub first_end : Position → Option Leg
 first_end Above = None
 first_end (Down trunk) = Some trunk
@@ -22,20 +22,20 @@ second_end Above = None
 second_end (Down trunk) = Some trunk
 second_end (Split trunk old new) = Some new
 
--- the leg stands where the path's last name does, or would, and nothing is in the way to there
+-- the leg is in the directory of the path's last name, and there is no obstacle on the way
 pub record HasEnded (s : State) (path : Path) (leg : Leg) : Type 0 where
   pub walked : leg.walked ≡ parent path
   pub here : leg.here ≡ directory_of s path
   pub way : in_the_way s (parent path) root ≡ []
 
--- at its ends a walk that isn't stale stands where its call needs it
+-- a walk at its ends that isn't stale is where its call needs it
 abbrev pub EndsAreReached : Type 0
 EndsAreReached = AfterSteps (λ w. OfWalks w (λ number walk.
     walk.stale ≡ false → at_ends walk.call walk.at ≡ true → (leg : Leg) →
     (first_end walk.at ≡ Some leg → HasEnded (shown w) (first_path walk.call) leg)
     × (second_end walk.at ≡ Some leg → HasEnded (shown w) (second_path walk.call) leg)))
 
--- Where the next name of the leg in turn names no directory, that is what the call is refused for
+-- if the next name of the leg in turn leads to no directory, the call is refused for that
 abbrev pub BlockedAreRefused : Type 0
 BlockedAreRefused = AfterSteps (λ w. OfWalks w (λ number walk.
     walk.stale ≡ false → (leg : Leg) → turn walk.at ≡ Some leg →

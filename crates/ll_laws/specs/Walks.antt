@@ -1,4 +1,4 @@
--- What holds of walks in every world that steps lead to. own
+-- What holds of the walks in every world that steps lead to. own
 use Rattle.std.specs.Prelude.{◌≡◌, ℕ, ◌≤◌, Bool, false, true, not, ◌&&◌, ◌||◌, ◌==◌, List, ◌++◌, map, Some, ⊤}
 use Rattle.ll_rights.specs.declared.kind.Kind.TheVariants.{Dir}
 use Rattle.ll_rights.specs.Map.{get, has}
@@ -16,8 +16,8 @@ use Rattle.ll_laws.specs.Walk.{Walk, Leg, Position, Above, Down, Split, trunk_pa
 use Rattle.ll_laws.specs.World.{World, new_world, world_after, shown, domain_of, is_walked, takes_gate}
 use Rattle.ll_laws.specs.declared.step.Step.{Step}
 
--- The names that the leg took name the directory where it stands, its chain are the inodes that these lead by, and its
--- masks are the rights that each layer grants there
+-- The names behind lead to the directory where the leg is. The chain is the inodes on that way. The masks are the
+-- rights that each layer grants there
 pub record IsRight (s : State) (domain : List Layer) (leg : Leg) : Type 0 where
   pub names : named s leg.walked ≡ Some leg.here
   pub directory : kind_of s leg.here ≡ Some Dir
@@ -29,7 +29,7 @@ AreRight s domain Above = ⊤
 AreRight s domain (Down trunk) = IsRight s domain trunk
 AreRight s domain (Split trunk old new) = IsRight s domain trunk × IsRight s domain old × IsRight s domain new
 
--- the legs are on the way of the call's paths
+-- the legs follow the call's paths
 abbrev pub AreOnPaths : Call → Position → Type 0
 AreOnPaths call Above = ⊤
 AreOnPaths call (Down trunk) = trunk.walked ++ trunk.ahead ≡ trunk_path call
@@ -38,7 +38,7 @@ AreOnPaths call (Split trunk old new) =
     × (old.walked ++ old.ahead ≡ parent (first_path call))
     × (new.walked ++ new.ahead ≡ parent (second_path call))
 
--- the caller is there, its call still is one that walks, and the walk is on its way
+-- the caller exists, its call still is one that walks, and the walk follows its paths
 pub record IsUnderWay (w : World) (number : ℕ) (walk : Walk) : Type 0 where
   pub there : has (shown w).clients number ≡ true
   pub walked : is_walked (client_of (shown w) number) walk.call ≡ true
@@ -49,7 +49,7 @@ pub record IsUnderWay (w : World) (number : ℕ) (walk : Walk) : Type 0 where
 abbrev pub AfterSteps : (World → Type 0) → Type 0
 AfterSteps P = (rules : Rules) (room limit : ℕ) (steps : List Step) → P (world_after (new_world rules room limit) steps)
 
--- so of each walk that is under way
+-- for each walk under way
 abbrev pub OfWalks : World → (ℕ → Walk → Type 0) → Type 0
 OfWalks w P = (number : ℕ) (walk : Walk) → get w.walks number ≡ Some walk → P number walk
 
@@ -58,12 +58,12 @@ HistoryIsLegal =
     (rules : Rules) (room limit : ℕ) (steps : List Step) →
     IsLegal (start rules room) (world_after (new_world rules room limit) steps).history
 
--- where a walk isn't stale, what it has found so far is so in the shown state
+-- what a walk has found is right in the visible tree, unless the walk is stale
 abbrev pub AreValid : World → Type 0
 AreValid w = OfWalks w (λ number walk.
     IsUnderWay w number walk × (walk.stale ≡ false → AreRight (shown w) (domain_of w number) walk.at))
 
--- a directory carries the mark of one walk at most
+-- a directory has the mark of at most one walk
 abbrev pub AreApart : World → Type 0
 AreApart w = OfWalks w (λ c v. OfWalks w (λ d u.
     (inode : ℕ) → marks v inode ≡ true → marks u inode ≡ true → c ≡ d))
@@ -71,7 +71,7 @@ AreApart w = OfWalks w (λ c v. OfWalks w (λ d u.
 abbrev pub AreFew : World → Type 0
 AreFew w = OfWalks w (λ number walk. walk.starts ≤ 4)
 
--- one of the calls that take the gate, or on its fourth start and not above the root
+-- its call takes the gate, or it is on its fourth start and not above the root
 abbrev pub needs_gate : Walk → Bool
 needs_gate walk = takes_gate walk.call || ((walk.starts == 4) && not (is_above walk.at))
 

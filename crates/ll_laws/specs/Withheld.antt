@@ -1,4 +1,4 @@
--- Which bytes clients under a layer read and change of what none of them has open. own
+-- Which bytes clients under a layer may read and change, of files that none of them has open. own
 use Rattle.std.specs.Prelude.{◌≡◌, ◌≢◌, ◌⊎◌, ℕ, true, List, [], ◌∷◌, ◌++◌, Some, ⊤, Contains}
 use Rattle.ll_rights.specs.Map.{get, has}
 use Rattle.ll_rights.specs.Right as right
@@ -16,7 +16,7 @@ use Rattle.ll_seq.specs.History.{state_after, after}
 use Rattle.ll_seq.specs.Reach.{InReach, HasName}
 use Rattle.ll_laws.specs.NoGain.{MovesUnder, AtEachCut}
 
--- no call but read is answered by bytes
+-- an entry that reads from the inode; only read is answered with bytes
 pub record ReadsFrom (s : State) (e : Entry) (inode : ℕ) : Type 0 where
   pub fd : ℕ
   pub offset : ℕ
@@ -37,11 +37,11 @@ pub record IsConfined (layer : Layer) (s : State) (client : ℕ) : Type 0 where
   pub there : has s.clients client ≡ true
   pub under : Contains (client_of s client).domain layer
 
--- who was, and whom one of these spawned by this entry
+-- the clients that were confined, and one that any of them spawned by this entry
 abbrev pub Confined : (ℕ → Type 0) → Entry → ℕ → Type 0
 Confined Was e client = Was client ⊎ (Was e.client × (e.reply ≡ Spawned client))
 
--- No confined client reads from the inode unless read_file was in reach at the cut, nor changes its bytes unless
+-- No confined client reads from the inode unless read_file was in reach at the cut. None changes its bytes unless
 -- write_file or truncate was
 abbrev pub Withheld : Layer → ℕ → State → (ℕ → Type 0) → State → List Entry → Type 0
 Withheld layer inode cut Was s [] = ⊤
@@ -51,8 +51,8 @@ Withheld layer inode cut Was s (e ∷ es) =
     InReach cut layer inode right.write_file ⊎ InReach cut layer inode right.truncate)
     × Withheld layer inode cut (Confined Was e) (after s e) es
 
--- Where each move after the cut is made under the layer, the bytes of an inode that no client under it has open then
--- are withheld from them, and from whom they spawn
+-- Take an inode that has a name at the cut and that no client under the layer has open then. If each move after the cut
+-- is made under the layer, its bytes are withheld from these clients, and from those that they spawn
 abbrev pub Withholds : Rules → ℕ → List Entry → List Entry → Type 0
 Withholds rules room early late =
     let cut = state_after (start rules room) early in

@@ -1,5 +1,5 @@
--- A tree whose clients' walks are under way, and the steps by which they go on, one after the other. Memory has no part
--- in it: whoever takes the steps says what is left where it runs out. own
+-- A tree with walks under way, and the steps that its clients take, one after the other. Memory has no part in it:
+-- whoever takes the steps says what happens when it runs out. own
 use Rattle.std.specs.Prelude.{ℕ, ◌+◌, Bool, true, false, not, ◌&&◌, ◌||◌, ◌==◌, List, [], ◌∷◌, ◌++◌, map, filter}
 use Rattle.std.specs.Prelude.{length, Option, Some, None, nat_le, is_none, unwrap_or, option_to_list, option_map}
 use Rattle.std.specs.Prelude.{option_and_then, if◌then◌else◌}
@@ -35,7 +35,7 @@ use Rattle.ll_laws.specs.declared.step.Step.TheVariants.{ClientStep}
 use Rattle.ll_laws.specs.Walk.{Walk, Leg, Above, Down, trunk_path, first_leg, further, is_blocked, turn, with_turn}
 use Rattle.ll_laws.specs.Walk.{at_ends, forked, marks, passes, is_above}
 
--- limit: how many entries the history may have. walks: of each client at most one. gate: who holds the move gate
+-- limit: the most entries of the history. walks: at most one for each client. gate: who holds the move gate
 pub record World : Type 0 where
   pub rules : Rules
   pub room : ℕ
@@ -48,11 +48,12 @@ abbrev pub new_world : Rules → ℕ → ℕ → World
 new_world rules room limit =
     record { rules = rules; room = room; limit = limit; history = []; walks = empty; gate = None }
 
--- The tree that all see is the one that the history made: a walk changes nothing of it before its commit
+-- The visible tree is the one that the history leads to: a walk changes nothing before its commit
 abbrev pub shown : World → State
 shown w = state_after (start w.rules w.room) w.history
 
--- NotNow: the step isn't enabled. Stands: in the directory of this inode. Joined: as the client of this number
+-- NotNow: the step isn't enabled. Stands: the walk is in the directory with this inode. Joined: as the client with this
+-- number
 pub data Outcome : Type 0 where
   NotNow : Outcome
   Begun : Outcome
@@ -64,21 +65,21 @@ pub data Outcome : Type 0 where
 
 -- ---- Which step makes a call
 
--- A call that names a path walks, unless an early stage refuses it
+-- A call with a path walks, unless an early stage refuses it
 abbrev pub is_walked : ClientRecord → Call → Bool
 is_walked c call = has_any (targets call) && not (has_any (early_refusals c call))
 
--- One on a descriptor that the client has is a step of that file, refused or not
+-- A call on a descriptor that the client has is a step on that file, refused or not
 abbrev pub is_on_descriptor : ClientRecord → Call → Bool
 is_on_descriptor c call = option_map_or (has c.descriptors) (descriptor_of call) false
 
--- Any other but a connect is a step of the client's alone: its answer needs no node
+-- Any other call except connect is a step of the client alone: its answer needs no node
 abbrev pub is_alone : ClientRecord → Call → Bool
 is_alone c call = not (is_connect call) && not (is_walked c call) && not (is_on_descriptor c call)
 
 -- ---- What is marked, and who holds the gate
 
--- some walk stands in the directory
+-- some walk is in the directory
 abbrev pub is_marked : World → ℕ → Bool
 is_marked w inode = list_any (λ (e : ℕ × Walk). marks e.1 inode) (entries w.walks)
 
@@ -88,19 +89,19 @@ is_marked_by_other w number inode =
 
 -- ---- When a walk may be answered
 
--- the node that the path names. (The root has no last name)
+-- the node at the end of the path. (The root has no last name)
 abbrev pub last_node : State → Path → List ℕ
 last_node s path = when (not (is_root path)) (option_to_list (named s path))
 
 abbrev pub last_nodes : State → Call → List ℕ
 last_nodes s call = flat_map (λ (target : Target). last_node s (path_of target)) (targets call)
 
--- the client's layers, which stay while its walk is under way
+-- the client's layers, which don't change while its walk is under way
 abbrev pub domain_of : World → ℕ → List Layer
 domain_of w number = (client_of (shown w) number).domain
 
--- It isn't stale. The leg in turn can't go on, which is the answer. Or each branch is at its end, and no other walk
--- stands in the node of a last name, which the call might remove
+-- The walk isn't stale, and one of two things holds. The leg in turn can't go on, which is the answer. Or each branch
+-- is at its end, and no other walk is in the node of a last name, which the call might remove
 abbrev pub may_commit : World → ℕ → Walk → Bool
 may_commit w number walk =
     not walk.stale
@@ -112,15 +113,15 @@ may_commit w number walk =
 abbrev pub is_full : World → Bool
 is_full w = nat_le w.limit (length w.history)
 
--- Clients are numbered from 1 in the order in which they come, connected or spawned, so this number is unused
+-- Clients are numbered from 1 in the order in which they connect or are spawned, so this number is unused
 abbrev pub next_number : World → ℕ
 next_number w = len (shown w).clients + 1
 
--- the sequential step's
+-- the reply of the sequential step
 abbrev pub reply_to : World → ℕ → Call → Reply
 reply_to w number call = (step (shown w) number call (next_number w)).0
 
--- A full history takes no entry, and then the call isn't made
+-- If the history is full, the call isn't made
 abbrev pub answered : World → ℕ → Call → Reply × World
 answered w number call =
     let answer = reply_to w number call in
@@ -129,7 +130,7 @@ answered w number call =
 
 -- ---- What a commit does to walks
 
--- each value of the map, changed
+-- the map with each value changed
 unfoldable pub map_values : {K X : Type 0} {R : K → K → Ordering} → (X → X) → Map R X → Map R X
 map_values f m = from_sorted (map (λ e. (e.0, f e.1)) m.list)
 
@@ -140,7 +141,7 @@ with_walk w number walk = record w { walks = insert w.walks number walk }
 abbrev pub released : Option ℕ → ℕ → Option ℕ
 released gate number = option_and_then (λ holder. if holder == number then None else Some holder) gate
 
--- with the walk its marks go
+-- the walk's marks go with it
 abbrev pub without_walk : World → ℕ → World
 without_walk w number = record w { walks = remove w.walks number; gate = released w.gate number }
 
@@ -148,33 +149,33 @@ abbrev pub is_done : Reply → Bool
 is_done reply.Done = true
 is_done _ = false
 
--- the second path names the first one's node already
+-- the second path already leads to the first one's node
 abbrev pub is_same_node : State → Path → Path → Bool
 is_same_node s old new = option_map_or (λ node. inode_of s old == node) (named s new) false
 
--- The directories that the call moves, where it is so answered. A rename onto the same node moves nothing
+-- The directories that the call moves, given its reply. A rename onto the same node moves nothing
 abbrev pub moved_by : State → Call → Reply → List ℕ
 moved_by s call reply =
     when (is_done reply && not (is_same_node s (first_path call) (second_path call)))
     (filter (λ inode. is_dir (kind_or_file s inode)) (map (inode_of s) (moving call)))
 
--- A walk with one of them on its chain is stale: its names lead elsewhere now
+-- A walk with one of them on its chain becomes stale: its names lead elsewhere now
 abbrev pub overtaken : List ℕ → Walk → Walk
 overtaken moved walk = record walk { stale = walk.stale || list_any (passes walk) moved }
 
--- ---- The steps. Each is None where it isn't enabled, and the words above it say where it is
+-- ---- The steps. Each is None if it isn't enabled; the comment above it says when it is
 
--- the client is there, and no walk of it is under way
+-- the client exists, and has no walk under way
 abbrev pub is_idle : World → ℕ → Bool
 is_idle w number = has (shown w).clients number && not (has w.walks number)
 
--- no entry tells of a connect that is refused
+-- a refused connect adds no entry
 abbrev pub joined : World → Reply → World → Outcome × World
 joined w reply.Done next = (Joined (next_number w), next)
 joined w reply next = (Replied reply, w)
 
--- Its client is idle, the call is one that walks, and nobody holds the gate if the call takes it. The walk starts above
--- the root
+-- Its client is idle, the call is one that walks, and the gate is free if the call takes it. The walk starts above the
+-- root
 abbrev pub begin : World → ℕ → Call → Option (Outcome × World)
 begin w number call =
     if is_idle w number && is_walked (client_of (shown w) number) call && (not (takes_gate call) || is_none w.gate)
@@ -203,27 +204,27 @@ enter w number walk =
     )
     else None
 
--- No walk stands there
+-- No walk is there
 abbrev pub stand : World → ℕ → Walk → Leg → Option (Outcome × World)
 stand w number walk leg =
     if not (is_marked w leg.here)
     then Some (Stands leg.here, with_walk w number (record walk { at = with_turn walk.at leg }))
     else None
 
--- The walk isn't stale, and is above the root, or its leg in turn has a next name that names a directory
+-- The walk isn't stale. It is above the root, or the next name of its leg in turn leads to a directory
 abbrev pub descend : World → ℕ → Walk → Option (Outcome × World)
 descend w number walk =
     if walk.stale then None
     else if is_above walk.at then enter w number walk
     else option_and_then (stand w number walk) (option_and_then (further (shown w) (domain_of w number)) (turn walk.at))
 
--- The walk isn't stale, and stands at the fork
+-- The walk isn't stale, and is at the fork
 abbrev pub fork : World → ℕ → Walk → Option (Outcome × World)
 fork w number walk =
     if walk.stale then None
     else option_map (λ at. (Forked, with_walk w number (record walk { at = at }))) (forked walk.call walk.at)
 
--- The walk ends with its call's answer, and whoever it overtook is stale
+-- The walk ends with its call's answer, and each walk that it overtook becomes stale
 abbrev pub commit : World → ℕ → Walk → Option (Outcome × World)
 commit w number walk =
     let r = answered (without_walk w number) number walk.call in
@@ -239,13 +240,13 @@ restart w number walk =
     then Some (Restarted, with_walk w number (record walk { starts = walk.starts + 1; stale = false; at = Above }))
     else None
 
--- A call that doesn't walk: its client is idle, and it is one for this step
+-- A call that doesn't walk: its client is idle, and the call is one for this step
 abbrev pub direct : World → ℕ → Bool → Call → Option (Outcome × World)
 direct w number allowed call =
     let r = answered w number call in
     if is_idle w number && allowed then Some (Replied r.0, r.1) else None
 
--- what comes of the step, if it may be made
+-- the outcome of the step, if it is enabled
 abbrev pub enabled : World → Step → Option (Outcome × World)
 enabled w Join = Some (let r = answered w (next_number w) call.Connect in joined w r.0 r.1)
 enabled w (Begin number call) = begin w number call
@@ -256,7 +257,7 @@ enabled w (Restart number) = option_and_then (restart w number) (get w.walks num
 enabled w (FdCommit number call) = direct w number (is_on_descriptor (client_of (shown w) number) call) call
 enabled w (ClientStep number call) = direct w number (is_alone (client_of (shown w) number) call) call
 
--- the client and the call that an entry of this step is of
+-- the client and the call of the entry that this step may add
 abbrev pub called : World → Step → Option (ℕ × Call)
 called w Join = Some (next_number w, call.Connect)
 called w (Commit number) = option_map (λ (walk : Walk). (number, walk.call)) (get w.walks number)

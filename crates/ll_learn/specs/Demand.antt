@@ -1,4 +1,4 @@
--- What one entry more demands of a layer. Cited by contracts between functions of the crate. own
+-- What one more entry demands of a layer. Cited by contracts between functions of the crate. own
 use Rattle.std.specs.Prelude.{◌≡◌, ◌≢◌, ◌↔◌, ◌<◌, ◌≤◌, ⊤, ℕ, Bool, true, List, [], length}
 use Rattle.std.specs.Option.{option_or}
 use Rattle.ll_rights.specs.declared.limits.TheConstants.{DOMAIN_LAYERS}
@@ -22,27 +22,27 @@ use Rattle.ll_learn.specs.There.{AsksMore, IsAskedIn, IsOfPath, MovesMore}
 use Rattle.ll_learn.specs.Watched.{is_watched}
 use Rattle.ll_learn.specs.Watching.{IsWatch}
 
--- the call isn't denied, and behind it its client has room for one layer more
+-- the call isn't denied, and after it its client has room for one more layer
 abbrev pub IsOpenAt : State → Entry → Type 0
 IsOpenAt behind e =
     ((denial : Denial) → e.reply ≢ reply.Denied denial)
     × (length (client_of behind e.client).domain < DOMAIN_LAYERS)
 
--- it isn't so, by a fault of this number
+-- that doesn't hold, with the fault of this number
 abbrev pub IsClosedAt : State → Entry → ℕ → LearnFault → Type 0
 IsClosedAt behind e number (fault.Denied n) = (n ≡ number) × ((denial : Denial) × (e.reply ≡ reply.Denied denial))
 IsClosedAt behind e number (fault.Full n) =
     (n ≡ number) × (DOMAIN_LAYERS ≤ length (client_of behind e.client).domain)
 IsClosedAt behind e number other = ⊥
 
--- an entry after which nothing can be learned, by its fault
+-- an entry after which nothing can be learned, with its fault
 abbrev pub StopsAt : State → List Watched → Entry → ℕ → LearnFault → Type 0
 StopsAt s clients e number fault.NoMemory = ⊤
 StopsAt s clients e number (fault.Illegal n) = (n ≡ number) × (MayStand s e → ⊥)
 StopsAt s clients e number other =
     MayStand s e × (is_watched clients e.client ≡ true) × IsClosedAt (after s e) e number other
 
--- an entry more: it may stand, theirs isn't denied, and its demands are added
+-- one more entry: it is legal, it isn't denied if its client has the layer, and its demands are added
 pub record GoesOn (s : State) (is_on : ℕ → Bool) (known : Openings) (e : Entry) (origin : Origin) (old new : Needs)
     (behind : State) (clients : List Watched) : Type 0 where
   pub stands : MayStand s e

@@ -1,4 +1,4 @@
--- Why nothing can be learned from entries behind a cut. own
+-- Why nothing can be learned from entries after a cut. own
 use Rattle.std.specs.Prelude.{◌≡◌, ℕ, ◌-◌, ◌≤◌, ⊤, true, false, List, length, take, Some, slice_get}
 use Rattle.ll_rights.specs.declared.limits.TheConstants.{DOMAIN_LAYERS}
 use Rattle.ll_rights.specs.Map.{has}
@@ -14,12 +14,12 @@ use Rattle.ll_learn.specs.declared.fault.LearnFault.TheVariants as fault
 use Rattle.ll_learn.specs.Passing.{IsOpen, is_client}
 use Rattle.ll_learn.specs.Watching.{joined}
 
--- so many entries are legal, and before the last of them nothing is denied and there is room
+-- this many entries are legal, and before the last of them nothing is denied and there is room
 pub record HasCome (s : State) (client : ℕ) (es : List Entry) (number : ℕ) : Type 0 where
   pub legal : IsLegal s (take number es)
   pub stays : IsOpen s (is_client client) (take (number - 1) es)
 
--- the entry of this number, from 1, is the first that is denied to one whom the layer is on
+-- the entry with this number, from 1, is the first that is denied to a client that the layer is on
 pub record IsFirstDenied (s : State) (client : ℕ) (es : List Entry) (number : ℕ) : Type 0 where
   pub come : HasCome s client es number
   pub first : 1 ≤ number
@@ -29,7 +29,7 @@ pub record IsFirstDenied (s : State) (client : ℕ) (es : List Entry) (number : 
   pub denial : Denial
   pub denied : entry.reply ≡ reply.Denied denial
 
--- behind so many entries, and no fewer, one whom the layer is on has as many layers as may be
+-- after this many entries, and no fewer, a client that the layer is on has the most layers
 pub record IsFirstFull (s : State) (client : ℕ) (es : List Entry) (number : ℕ) : Type 0 where
   pub come : HasCome s client es number
   pub last : number ≤ length es

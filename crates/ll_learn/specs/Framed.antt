@@ -1,4 +1,5 @@
--- Where rules may stand at a cut, and profiles of them. Cited by contracts between functions of the crate. own
+-- Where rules may be put at a cut, and the profiles with such rules. Cited by contracts between functions of the crate.
+-- own
 use Rattle.std.specs.Prelude.{⊤, ◌≡◌, ◌<◌, ℕ, true}
 use Rattle.std.specs.List.{list_any}
 use Rattle.ll_rights.specs.Access.{holds}
@@ -21,7 +22,7 @@ use Rattle.ll_learn.specs.Mended.{AreSiteChains}
 use Rattle.ll_learn.specs.Needs.{Meets}
 use Rattle.ll_learn.specs.Sites.{AreAll, AreSites, IsReached}
 
--- the frame's rules may stand on each node of this tree that a policy can name, with the rights that are held
+-- the frame's rules may be on each node of this tree that a policy can name, with the rights that the aim allows
 pub record IsFrame (s : State) (aim : Aim) (frame : Frame) : Type 0 where
   pub held : ℕ
   pub is_held : (right : ℕ) → right < 15 → holds held right ≡ may_hold aim right
@@ -38,8 +39,8 @@ IsUnframed s aim (fault.NoNode index) = NamesNone s aim index
 IsUnframed s aim fault.NoMemory = ⊤
 IsUnframed s aim other = ⊥
 
--- The layers of the profile are within the scope and meet the needs, and don't without any one right of any one rule.
--- Its rules are on these nodes
+-- The layers of the profile are within the scope and meet the needs, but not without any one right of any one rule. Its
+-- rules are on these nodes
 pub record MeetsNeeds (sites : Sites) (chains : SiteChains) (scope : Scope) (needs : Needs) (profile : LearnedProfile)
     : Type 0 where
   pub handled : profile.handled ≡ scope.handled

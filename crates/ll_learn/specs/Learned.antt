@@ -30,7 +30,7 @@ connects_as client e = (e.client == client) && is_connect e.call
 abbrev pub NeverConnects : List Entry → ℕ → Type 0
 NeverConnects es client = list_any (connects_as client) es ≡ false
 
--- so many entries are those up to the client's first connect
+-- this many entries end with the client's first connect
 pub record IsCut (es : List Entry) (client cut : ℕ) : Type 0 where
   pub some : 1 ≤ cut
   pub last : Entry
@@ -38,16 +38,16 @@ pub record IsCut (es : List Entry) (client cut : ℕ) : Type 0 where
   pub connects : connects_as client last ≡ true
   pub first : NeverConnects (take (cut - 1) es) client
 
--- up to there the history has these entries
+-- the history begins with these entries, up to the cut
 pub record BeginsSo (early : List Entry) (client : ℕ) (es : List Entry) : Type 0 where
   pub cut : IsCut es client (length early)
   pub alike : take (length early) es ≡ early
 
--- the part behind the cut, where the tree is
+-- the part after the cut, with the tree's state there
 abbrev pub part_behind : State → ℕ → ℕ → List Entry → Part
 part_behind s client cut es = record { cut = s; client = client; entries = drop cut es }
 
--- all histories are alike up to the cut, and legal; the parts behind it
+-- all histories begin with the same legal entries up to the cut; the parts after it
 pub record AreCut (s : State) (client : ℕ) (histories : List (List Entry)) (early : List Entry) (parts : List Part)
     : Type 0 where
   pub legal : IsLegal s early
@@ -56,17 +56,17 @@ pub record AreCut (s : State) (client : ℕ) (histories : List (List Entry)) (ea
 
 -- ---- What is learned
 
--- rules within the aim may hold the right
+-- rules within the aim may have the right
 abbrev pub may_hold : Aim → ℕ → Bool
 may_hold aim right = holds aim.handled.0 right && not (holds aim.never.0 right)
 
--- the layers that a policy can spell at this tree within the aim
+-- the layers within the aim that a policy can spell at this tree
 abbrev pub IsWithinAim : State → Aim → Layer → Type 0
 IsWithinAim s aim layer = (held : ℕ) → ((right : ℕ) → right < 15 → holds held right ≡ may_hold aim right) →
     IsLayerOf s aim.handled.0 held layer
 
--- Each part passes under the layer that the profile is of, and without any one right of any one rule of the layer not
--- each does. If the profile is least, no layer within the aim under which each part passes reaches less at the cut
+-- Each part passes under the profile's layer. Without any one right of any one of its rules, some part doesn't. If the
+-- profile is least, no layer within the aim under which each part passes reaches less at the cut
 pub record IsLearnedAt (s : State) (parts : List Part) (aim : Aim) (profile : LearnedProfile) : Type 0 where
   pub learnable : (part : Part) → Contains parts part → IsLearnable part.cut part.client part.entries
   pub handled : profile.handled ≡ aim.handled
@@ -78,7 +78,7 @@ pub record IsLearnedAt (s : State) (parts : List Part) (aim : Aim) (profile : Le
   pub least : profile.is_least ≡ true → (least : Layer) → IsOfProfile profile least
       → (layer : Layer) → IsWithinAim s aim layer → PassesEach parts layer → ReachesNoMore s least layer
 
--- so it is behind the client's connect, in a tree that was this one at first
+-- after the client's connect, in a tree that began in this state
 pub record IsLearned (s : State) (histories : List (List Entry)) (aim : Aim) (profile : LearnedProfile) : Type 0 where
   pub early : List Entry
   pub parts : List Part
@@ -86,7 +86,7 @@ pub record IsLearned (s : State) (histories : List (List Entry)) (aim : Aim) (pr
   pub cut : AreCut s aim.client histories early parts
   pub learned : IsLearnedAt (state_after s early) parts aim profile
 
--- ---- Why nothing is
+-- ---- Why nothing is learned
 
 -- the first history has these entries up to the cut
 pub record IsOpening (histories : List (List Entry)) (client : ℕ) (early : List Entry) : Type 0 where
@@ -97,7 +97,7 @@ pub record IsOpening (histories : List (List Entry)) (client : ℕ) (early : Lis
 abbrev pub IsUnlike : List Entry → ℕ → List Entry → Type 0
 IsUnlike early client es = (cut : ℕ) × IsCut es client cut × (take cut es ≡ early → ⊥)
 
--- Behind the cut, up to which all is legal, this holds of the entry of this number, which is counted from the start
+-- After the cut, up to which everything is legal, this holds of the entry with this number, counted from the start
 pub record IsBehind (Is : State → ℕ → List Entry → ℕ → Type 0) (s : State) (early : List Entry) (client : ℕ)
     (es : List Entry) (number : ℕ) : Type 0 where
   pub begins : BeginsSo early client es
@@ -106,7 +106,7 @@ pub record IsBehind (Is : State → ℕ → List Entry → ℕ → Type 0) (s : 
   pub counted : number ≡ length early + behind
   pub is : Is (state_after s early) client (drop (length early) es) behind
 
--- this holds of the history of this number, where the first begins with these entries
+-- this holds of the history with this number, if the first begins with these entries
 pub record IsOfOne (histories : List (List Entry)) (client number : ℕ) (Is : (early es : List Entry) → Type 0)
     : Type 0 where
   pub early : List Entry
@@ -115,7 +115,7 @@ pub record IsOfOne (histories : List (List Entry)) (client number : ℕ) (Is : (
   pub is : slice_get histories number ≡ Some es
   pub so : Is early es
 
--- no layer within the aim lets all parts pass
+-- under no layer within the aim do all parts pass
 pub record IsUnmetBy (s : State) (histories : List (List Entry)) (aim : Aim) : Type 0 where
   pub early : List Entry
   pub parts : List Part
@@ -123,7 +123,7 @@ pub record IsUnmetBy (s : State) (histories : List (List Entry)) (aim : Aim) : T
   pub opening : IsOpening histories aim.client early
   pub none : (layer : Layer) → IsWithinAim (state_after s early) aim layer → PassesEach parts layer → ⊥
 
--- at the cut the path of this index, from 0, names nothing
+-- at the cut, the path with this index, from 0, leads to no node
 pub record NamesNone (s : State) (aim : Aim) (index : ℕ) : Type 0 where
   pub path : Path
   pub is : slice_get aim.beneath.now index ≡ Some path

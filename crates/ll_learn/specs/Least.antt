@@ -1,14 +1,14 @@
--- Layers that lack nothing and of which nothing can be left out. own
+-- Layers that lack nothing and have nothing to spare. own
 use Rattle.std.specs.Prelude.{◌≡◌, ◌<◌, ℕ, true, not, ◌&&◌, ◌==◌}
 use Rattle.ll_rules.specs.Layer.{Layer, has_rule}
 
--- the same layer but for one right of one rule
+-- the layer without one right of one rule
 pub record IsWithout (layer : Layer) (inode right : ℕ) (less : Layer) : Type 0 where
   pub handled : less.handled ≡ layer.handled
   pub rules : (other : ℕ) (r : ℕ) → r < 15
       → has_rule less r other ≡ (has_rule layer r other && not ((other == inode) && (r == right)))
 
--- without any right of a rule it doesn't pass
+-- without any one right of a rule it doesn't pass
 abbrev pub AreNeeded : (Layer → Type 0) → Layer → Type 0
 AreNeeded Passes layer = (inode right : ℕ) → right < 15 → has_rule layer right inode ≡ true → (less : Layer)
     → IsWithout layer inode right less → Passes less → ⊥

@@ -1,4 +1,4 @@
--- Rules of learned profiles, and which layers they spell. own
+-- The rules of learned profiles, and which layers they spell. own
 use Rattle.std.specs.Prelude.{◌≡◌, ◌⊎◌, ◌<◌, ◌==◌, ◌&&◌, ◌↔◌, ℕ, Bool, true, List, [], None, Some, All, IsTrue}
 use Rattle.std.specs.List.{list_any}
 use Rattle.ll_rights.specs.declared.access.Access.{Access}
@@ -23,41 +23,41 @@ use Rattle.ll_learn.specs.Sites.{IsAmong}
 
 -- ---- Rules on nodes
 
--- the rule is on this node, and grants the right
+-- the rule is on this node, and has the right
 abbrev pub gives : ℕ → ℕ → LearnedRule → Bool
 gives inode right rule = (rule.inode == inode) && holds rule.rights.0 right
 
--- the rules grant what the draft's do
+-- the rules have the same rights as the draft's
 abbrev pub AreRulesOf : Draft → List LearnedRule → Type 0
 AreRulesOf draft rules =
     (inode right : ℕ) → right < 15 → list_any (gives inode right) rules ≡ has draft right inode
 
--- each rule is on the node that its path names
+-- each rule is on the node that its path leads to
 abbrev pub AreNamed : State → List LearnedRule → Type 0
 AreNamed s rules = All (λ (rule : LearnedRule). named s rule.path ≡ Some rule.inode) rules
 
--- the profile is of this layer
+-- the profile spells this layer
 pub record IsOfProfile (profile : LearnedProfile) (layer : Layer) : Type 0 where
   pub handled : layer.handled ≡ profile.handled.0
   pub rules : (inode right : ℕ) → right < 15
       → has_rule layer right inode ≡ list_any (gives inode right) profile.rules.items
 
--- one of these nodes is this inode, and a rule on it may grant the right
+-- one of these nodes is this inode, and a rule on it may have the right
 abbrev pub CanHold : Sites → ℕ → ℕ → Type 0
 CanHold sites inode right =
     (site : Site) × IsAmong sites site × (site.inode ≡ inode) × (holds site.may.0 right ≡ true)
 
--- of sets of rights, one for each inode: they hold just what is held and may be granted by rules on these nodes
+-- the sets, one for each inode, have exactly the rights that are held and that rules on these nodes may have
 abbrev pub AreOfSites : Sites → (held : ℕ) → List Access → Type 0
 AreOfSites sites held may = (inode right : ℕ) → right < 15
     → IsTrue (right_at may right inode) ↔ ((holds held right ≡ true) × CanHold sites inode right)
 
--- what rules of the scope may hold is handled, and may be granted by rules on these nodes
+-- what rules of the scope may have is handled, and rules on these nodes may have it
 abbrev pub IsOfSites : Sites → Scope → Type 0
 IsOfSites sites scope = (inode right : ℕ) → right < 15 → may_have scope right inode ≡ true
     → (holds scope.handled.0 right ≡ true) × CanHold sites inode right
 
--- ---- Why they stand there
+-- ---- Why the rules are there
 
 abbrev pub origin_of : Need → Origin
 origin_of (Asks origin) = origin
@@ -71,13 +71,14 @@ IsNeededBy draft needs inode origin = (right : ℕ) × (need : Need)
 
 -- ---- Which profiles are least
 
--- nothing is widened, and where these are chains of directories none that nodes move into has moved
+-- nothing is widened; and if these are chains of directories, no directory that nodes move into has moved
 abbrev pub IsUnmoved : SiteChains → Scope → Needs → Type 0
 IsUnmoved chains scope needs =
     (scope.beneath.items ≡ []) × ((s : State) → AreSiteChains s chains → IsStill s needs scope)
 
--- Each right of its rules is asked where no later rule may hold it, or else each is asked or mended and no directory
--- that nodes move into has moved; and nobody else moves a node or gives it a name
+-- The profile is least: nobody else moves or names a node, and one of two things holds. Each right of its rules is
+-- asked on a path where no rule further down may have it. Or each is asked or mended, and no directory that nodes move
+-- into has moved
 pub record IsLeastOf (chains : SiteChains) (scope : Scope) (needs : Needs) (profile : LearnedProfile) : Type 0 where
   pub draft : Draft
   pub rules : AreRulesOf draft profile.rules.items

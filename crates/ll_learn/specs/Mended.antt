@@ -1,4 +1,4 @@
--- Drafts whose rights are asked or mended are least where no directory that matters has moved. own
+-- Drafts with rights that are asked or mended are least if no directory that matters has moved. own
 use Rattle.std.specs.Prelude.{◌≡◌, ◌<◌, ℕ, true, List, [], ◌∷◌, ◌++◌, Some, All}
 use Rattle.ll_rights.specs.declared.kind.Kind.TheVariants.{Dir}
 use Rattle.ll_path.specs.Path.{Path}
@@ -17,20 +17,20 @@ use Rattle.ll_learn.specs.Draft.{IsDerived, IsInScope, IsOf, has, may_have}
 
 -- ---- Directories that have not moved
 
--- a path of these inodes names the inode, which is a directory
+-- a path with these inodes leads to the inode, which is a directory
 pub record IsPathTo (s : State) (inode : ℕ) (inodes : List ℕ) : Type 0 where
   pub path : Path
   pub names : named s path ≡ Some inode
   pub chain : ancestors s path ≡ inodes
   pub directory : kind_of s inode ≡ Some Dir
 
--- as far as rules may hold rights on these inodes, they are those of paths
+-- wherever rules on these inodes may have rights, the inodes are those of paths
 abbrev pub ArePathsTo : State → Scope → List ℕ → Type 0
 ArePathsTo s scope inodes = (front behind : List ℕ) (inode right : ℕ) → inodes ≡ front ++ inode ∷ behind →
     right < 15 → may_have scope right inode ≡ true → IsPathTo s inode (front ++ inode ∷ [])
 
--- Wherever nodes move to: each directory on the way whose rule may hold a right has the nodes above it that it has in
--- this state
+-- On the way to wherever nodes move: each directory whose rule may have a right still has the directories above it that
+-- it has in this state
 abbrev pub IsStill : State → Needs → Scope → Type 0
 IsStill s needs scope = All (λ (m : Moved). ArePathsTo s scope m.into.items) needs.moves.items
 
@@ -49,8 +49,8 @@ abbrev pub AreDerived : Scope → Needs → Draft → Type 0
 AreDerived scope needs draft =
     (inode right : ℕ) → right < 15 → has draft right inode ≡ true → IsDerived scope needs right inode
 
--- Where nothing is widened and directories are still, a layer of such a draft reaches no more at the cut than any layer
--- of the scope under which all parts pass
+-- If nothing is widened and directories are still, a layer of such a draft is least. It reaches no more at the cut than
+-- any layer of the scope under which all parts pass
 abbrev pub MendedIsLeast : Type 0
 MendedIsLeast = (s : State) (parts : List Part) → BeginAt s parts → (needs : Needs) → AreNeedsOf parts needs →
     AreMovesOf parts needs → (scope : Scope) → IsScopeAt s scope → scope.beneath.items ≡ [] → IsStill s needs scope →

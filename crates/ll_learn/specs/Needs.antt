@@ -9,11 +9,11 @@ use Rattle.ll_learn.specs.declared.needs.Moved.{Moved}
 use Rattle.ll_learn.specs.declared.needs.Needs.{Needs}
 use Rattle.ll_learn.specs.Passing.{AllowsRun}
 
--- these rights are granted on a path of these inodes. grants: what a layer grants there
+-- these rights are granted on a path with these inodes. grants: what a layer grants there
 abbrev pub GrantsAll : (List ℕ → ℕ → Bool) → ℕ → List ℕ → Type 0
 GrantsAll grants rights inodes = (right : ℕ) → right < 15 → holds rights right ≡ true → grants inodes right ≡ true
 
--- none of these rights is granted in the directory and not on the node's own path
+-- each of these rights that is granted in the directory is granted on the node's own path
 abbrev pub GivesNone : (List ℕ → ℕ → Bool) → ℕ → (from into : List ℕ) → Type 0
 GivesNone grants rights from into =
     (right : ℕ) → right < 15 → holds rights right ≡ true → grants into right ≡ true → grants from right ≡ true

@@ -1,4 +1,4 @@
--- What histories that begin alike need. Cited by contracts between functions of the crate. own
+-- What histories with the same beginning need. Cited by contracts between functions of the crate. own
 use Rattle.std.specs.Prelude.{⊤, ◌≡◌, ◌↔◌, ◌+◌, ℕ, List, All, Contains, None, Some, length, map, slice_get}
 use Rattle.ll_rules.specs.Layer.{Layer, grants_on}
 use Rattle.ll_seq.specs.declared.reply.Entry.{Entry}
@@ -23,7 +23,7 @@ use Rattle.ll_learn.specs.Needs.{Adds, AreRooted, Meets}
 use Rattle.ll_learn.specs.Passing.{IsLearnable, is_client}
 use Rattle.ll_learn.specs.There.{ComeFrom, MovesMore}
 
--- the needs of one part more, where the tree is
+-- the needs after one more part, cut in this state
 pub record Gathers (s : State) (client : ℕ) (es : List Entry) (old new : Needs) : Type 0 where
   pub learnable : IsLearnable s client es
   pub adds : Adds s client es old new
@@ -42,7 +42,7 @@ pub record AreNeedsOfAll (parts : List Part) (needs : Needs) : Type 0 where
   pub theirs : needs.outside ≡ None → (part : Part) → Contains parts part
       → MovesAreTheirs (is_client part.client) part.entries
 
--- and of histories that begin so
+-- the needs of histories that begin with these entries
 pub record AreGathered (s : State) (early : List Entry) (client : ℕ) (hs : List (List Entry)) (needs : Needs)
     : Type 0 where
   pub begin : All (BeginsSo early client) hs
@@ -50,13 +50,13 @@ pub record AreGathered (s : State) (early : List Entry) (client : ℕ) (hs : Lis
 
 -- ---- Why they can't be gathered
 
--- a history of this number isn't legal up to the cut
+-- the history with this number isn't legal up to the cut
 abbrev pub IsUnopened : State → List Entry → ℕ → Unlearned → Type 0
 IsUnopened s early number (fault.Illegal at) = (at.history ≡ number) × IsFirstIllegal s early at.entry
 IsUnopened s early number fault.NoMemory = ⊤
 IsUnopened s early number other = ⊥
 
--- it doesn't begin so
+-- it doesn't begin with these entries
 abbrev pub IsUnbegun : List Entry → ℕ → ℕ → List Entry → Unlearned → Type 0
 IsUnbegun early client number es (fault.NoClient n) = (n ≡ number) × NeverConnects es client
 IsUnbegun early client number es (fault.Unlike n) = (n ≡ number) × IsUnlike early client es
@@ -83,7 +83,7 @@ pub record IsUnlearnedOfOne (s : State) (early : List Entry) (client : ℕ) (hs 
   pub is : slice_get hs number ≡ Some es
   pub so : IsUnlearnedOf s early client number es fault
 
--- ---- How they are told
+-- ---- How faults are reported
 
 abbrev pub entry_behind : (cut history entry : ℕ) → Origin
 entry_behind cut history entry = record { history = history; entry = cut + entry }
@@ -95,7 +95,7 @@ number_of (late.Denied number) = number
 number_of (late.Full number) = number
 number_of other = 0
 
--- a fault behind the cut, with entries counted from the start
+-- a fault after the cut, with entries counted from the start
 abbrev pub unlearned_by : (cut history : ℕ) → LearnFault → Unlearned
 unlearned_by cut history late.NoClient = fault.NoClient history
 unlearned_by cut history (late.Illegal number) = fault.Illegal (entry_behind cut history number)

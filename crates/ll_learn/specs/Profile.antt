@@ -11,7 +11,7 @@ use Rattle.ll_learn.specs.declared.needs.Origin.{Origin}
 use Rattle.ll_learn.specs.declared.profile.LearnedRule.{LearnedRule}
 use Rattle.ll_learn.specs.declared.profile.LearnedProfile.{LearnedProfile}
 
--- in a string of TOML a quotation mark (34) and a backslash (92) stand behind a backslash
+-- in a string of TOML, a backslash precedes a quotation mark (34) and a backslash (92)
 abbrev pub toml_byte : ℕ → List ℕ
 toml_byte b = if (b == 34) || (b == 92) then 92 ∷ b ∷ [] else b ∷ []
 
@@ -25,12 +25,12 @@ head_line is_least =
     if is_least then codes "# least: each layer under which these calls pass grants all that this one grants\n"
     else codes "# passes, and no single right can be left out\n"
 
--- the comment on an entry, if there is one. note: the line on it
+-- the comment on an entry, if there is one. note: the line for it
 abbrev pub comment : (Origin → List ℕ) → Option Origin → List ℕ
 comment note None = []
 comment note (Some entry) = concat (codes "# " ∷ note entry ∷ [])
 
--- behind an empty line, and a comment on what needs it first
+-- a rule: an empty line, a comment on the first entry that needs it, and its keys
 abbrev pub rule_text : (Origin → List ℕ) → List ℕ → LearnedRule → List ℕ
 rule_text note name rule = concat (
     codes "\n" ∷ comment note rule.needed_by ∷ codes "[[profile." ∷ name ∷ codes ".layer.rule]]\npath = "
@@ -42,12 +42,12 @@ profile_text note name profile = concat (
     head_line profile.is_least ∷ codes "[[profile." ∷ name ∷ codes ".layer]]\nhandled = \""
     ∷ access_text profile.handled.0 ∷ codes "\"\n" ∷ flat_map (rule_text note name) profile.rules.items ∷ [])
 
--- ---- The same as calls
+-- ---- The profile as calls
 
--- adds the rule to the ruleset of number 0
+-- adds the rule to ruleset 0
 abbrev pub call_of : LearnedRule → Call
 call_of rule = Allow 0 (Good rule.path) rule.rights
 
--- by which a client that has created no ruleset gets the layer
+-- the calls by which a client that has created no ruleset gets the layer
 abbrev pub calls_of : LearnedProfile → List Call
 calls_of profile = Ruleset profile.handled ∷ (map call_of profile.rules.items ++ Confine 0 ∷ [])

@@ -1,4 +1,4 @@
--- Where nodes are in a tree, what rules on them may grant, and which layers a policy can spell there. own
+-- Where nodes are in a tree, which rights rules on them may have, and which layers a policy can spell there. own
 use Rattle.std.specs.Prelude.{◌≡◌, ◌<◌, ◌==◌, ◌∷◌, [], ◌++◌, ℕ, List, Some, true, All, IsTrue, bit_and, slice_get}
 use Rattle.std.specs.Prelude.{if◌then◌else◌}
 use Rattle.ll_rights.specs.Access.{holds}
@@ -29,43 +29,43 @@ pub record IsReached (s : State) : Type 0 where
 abbrev pub IsSpelt : Path → Type 0
 IsSpelt path = (text : List ℕ) × IsWord text × IsTarget text (Good path)
 
--- a path that some word spells names the inode
+-- a path that some word spells leads to the inode
 abbrev pub HasSpeltName : State → ℕ → Type 0
 HasSpeltName s inode = (path : Path) × IsSpelt path × (named s path ≡ Some inode)
 
--- what a rule on the inode may grant of these rights: those that mean something for its kind. The root is a directory
+-- which of these rights a rule on the inode may have: those that apply to its kind. The root is a directory
 abbrev pub may_grant : State → ℕ → ℕ → ℕ
 may_grant s all inode = if inode == root then all else bit_and all (meant (kind_of s inode))
 
--- its path, which some word spells, names it, and a rule on it may grant so much
+-- its path, which some word spells, leads to it, and a rule on it may have these rights
 pub record IsSite (s : State) (all : ℕ) (site : Site) : Type 0 where
   pub spelt : IsSpelt site.path
   pub named : named s site.path ≡ Some site.inode
   pub may : site.may.0 ≡ may_grant s all site.inode
 
--- it is among them
+-- the site is in the list
 abbrev pub IsAmong : Sites → Site → Type 0
 IsAmong sites site = (index : ℕ) × (slice_get sites.rows.items index ≡ Some site)
 
--- one of them is this inode's
+-- the list has a site of this inode
 abbrev pub HasSite : Sites → ℕ → Type 0
 HasSite sites inode = (site : Site) × IsAmong sites site × (site.inode ≡ inode)
 
--- the root is among them, and a rule on it may grant all these rights
+-- the list has the root, and a rule on it may have all these rights
 abbrev pub HasTop : ℕ → Sites → Type 0
 HasTop all sites = (site : Site) × IsAmong sites site × (site.inode ≡ root) × (site.may.0 ≡ all)
 
--- the nodes of these sites, and the root
+-- the list has only sites of this tree, and the root
 pub record AreSites (s : State) (all : ℕ) (sites : Sites) : Type 0 where
   pub each : All (IsSite s all) sites.rows.items
   pub top : HasTop all sites
 
--- each node that a spelt path names is among them
+-- the list has each node that a spelt path leads to
 abbrev pub AreAll : State → Sites → Type 0
 AreAll s sites = (inode : ℕ) → HasSpeltName s inode → HasSite sites inode
 
--- The layers that a policy can spell at this tree, which handle these rights: each rule is on a node that a spelt path
--- names, and holds only rights that are held and mean something for it
+-- The layers that a policy can spell at this tree and that handle these rights. Each rule is on a node that a spelt
+-- path leads to, and has only rights that are held and apply to it
 pub record IsLayerOf (s : State) (handled held : ℕ) (layer : Layer) : Type 0 where
   pub handles : layer.handled ≡ handled
   pub rules : (inode right : ℕ) → right < 15 → has_rule layer right inode ≡ true
@@ -73,16 +73,16 @@ pub record IsLayerOf (s : State) (handled held : ℕ) (layer : Layer) : Type 0 w
 
 -- ---- While they are gathered
 
--- more sites behind the same ones
+-- sites were appended
 abbrev pub IsLonger : Sites → Sites → Type 0
 IsLonger old new = (more : List Site) × (new.rows.items ≡ old.rows.items ++ more)
 
--- each node right below the site that a spelt path of it names is among them
+-- the list has each node directly below the site that a spelt path leads to
 abbrev pub HasBelow : State → Sites → Site → Type 0
 HasBelow s sites site = (name : Name) (inode : ℕ) → IsSpelt (site.path ++ name ∷ [])
     → child s site.inode name ≡ Some inode → HasSite sites inode
 
--- that is so of each site in front of this index
+-- that holds for each site before this index
 abbrev pub HaveBelow : State → Sites → ℕ → Type 0
 HaveBelow s sites index =
     (i : ℕ) → i < index → (site : Site) → slice_get sites.rows.items i ≡ Some site → HasBelow s sites site

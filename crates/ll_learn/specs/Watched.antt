@@ -4,7 +4,7 @@ use Rattle.std.specs.Prelude.{is_some, find, option_map, option_and_then, if◌t
 use Rattle.ll_learn.specs.declared.watch.Opened.{Opened}
 use Rattle.ll_learn.specs.declared.watch.Watched.{Watched}
 
--- the first that passes the test lies there
+-- the place of the first that passes the test
 abbrev pub IsAt : {A : Type 0} → (A → Bool) → List A → ℕ → Type 0
 IsAt test [] place = ⊥
 IsAt test (x ∷ xs) zero = test x ≡ true
@@ -27,18 +27,18 @@ watched_as clients client = find (is_client_of client) clients
 abbrev pub is_watched : List Watched → ℕ → Bool
 is_watched clients client = is_some (watched_as clients client)
 
--- by which path each of them has opened what, as far as known
+-- the path by which each of them opened each descriptor, if known
 abbrev pub paths_opened : List Watched → ℕ → ℕ → Option (List ℕ)
 paths_opened clients client fd =
     option_and_then (λ (w : Watched). path_opened w.opened.items fd) (watched_as clients client)
 
--- with one opening more, if the client is watched
+-- with one more opening, if the client is watched
 abbrev pub with_opening : List Watched → ℕ → ℕ → List ℕ → ℕ → ℕ → Option (List ℕ)
 with_opening clients client fd inodes other number =
     if (is_watched clients client && (client == other)) && (fd == number) then Some inodes
     else paths_opened clients other number
 
--- with one client more, which has what the other has
+-- with one more client, which has what the other has
 pub record Joins (old new : List Watched) (parent child : ℕ) : Type 0 where
   pub on : (other : ℕ) → is_watched new other ≡ (is_watched old other || (child == other))
   pub paths : (other fd : ℕ)

@@ -5,21 +5,21 @@ ghost use Rattle.std.specs.Prelude.{◌≡◌, ◌↔◌, IsTrue};
 use ll_path::Target;
 use ll_seq::{Call, Entry};
 
-// Whether the path arguments are equal.
+// Reports whether the path arguments are equal.
 fn is_same_target(one: &Target, other: &Target) -> bool
     ensures { IsTrue result ↔ (one.now ≡ other.now) }
 {
     one.as_str() == other.as_str()
 }
 
-// Whether the first two path arguments are equal to the others.
+// Reports whether the first two path arguments are equal to the other two.
 fn are_same_targets(s: &Target, t: &Target, u: &Target, v: &Target) -> bool
     ensures { IsTrue result ↔ ((s.now ≡ u.now) × (t.now ≡ v.now)) }
 {
     is_same_target(s, u) && is_same_target(t, v)
 }
 
-// Whether the calls are equal.
+// Reports whether the calls are equal.
 fn is_same_call(one: &Call, other: &Call) -> bool
     ensures { IsTrue result ↔ (one.now ≡ other.now) }
 {
@@ -53,14 +53,14 @@ fn is_same_call(one: &Call, other: &Call) -> bool
     }
 }
 
-// Whether the entries are equal.
+// Reports whether the entries are equal.
 fn is_same_entry(one: &Entry, other: &Entry) -> bool
     ensures { IsTrue result ↔ (one.now ≡ other.now) }
 {
     one.client == other.client && is_same_call(&one.call, &other.call) && one.reply.is(&other.reply)
 }
 
-/// Whether both have the same entries.
+/// Reports whether both lists have the same entries.
 pub(crate) fn are_alike(some: &[Entry], others: &[Entry]) -> bool
     ensures { IsTrue result ↔ (some.now ≡ others.now) }
 {

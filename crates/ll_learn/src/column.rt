@@ -1,4 +1,4 @@
-//! On which inodes rules hold one right: as few as what is needed of it allows.
+//! The inodes whose rules have one right: as few as its needs allow.
 
 ghost use Rattle.std.specs.Prelude.{◌≡◌, ◌<◌, ◌==◌, ◌||◌, ◌&&◌, ℕ, true, false, length, slice_set, IfOk};
 ghost use Rattle.std.specs.List.{list_all, list_any};
@@ -12,7 +12,7 @@ use crate::needs::{Asked, Moved, Needs};
 use ll_rights::Right;
 use std::alloc::{AllocError, Global};
 
-// No rule on so many inodes holds the right.
+// Returns a column in which none of this many inodes has the right.
 fn none_held(alloc: Global, count: usize) -> Result<Vec<bool>, AllocError>
     ensures len { IfOk result (λ held. length held.items ≡ count) }
     ensures none { IfOk result (λ held. (inode : ℕ) → is_at held.items inode ≡ false) }
@@ -21,7 +21,7 @@ fn none_held(alloc: Global, count: usize) -> Result<Vec<bool>, AllocError>
     Ok(held)
 }
 
-// Whether a rule on the inode holds the right.
+// Reports whether a rule on the inode has the right.
 fn is_held(held: &[bool], inode: u64) -> bool
     ensures { result ≡ is_at held.now inode }
 {
@@ -29,14 +29,14 @@ fn is_held(held: &[bool], inode: u64) -> bool
     place < held.len() && held[place]
 }
 
-// Whether a rule on one of the inodes does.
+// Reports whether a rule on one of the inodes has the right.
 fn is_on(held: &[bool], inodes: &[u64]) -> bool
     ensures { result ≡ list_any (is_at held.now) inodes.now }
 {
     inodes.iter().any(|inode| is_held(held, *inode))
 }
 
-// Whether a rule on another of the inodes than this one does.
+// Reports whether a rule on one of the inodes, except `out`, has the right.
 fn is_on_without(held: &[bool], out: u64, inodes: &[u64]) -> bool
     ensures { result ≡ list_any (without out (is_at held.now)) inodes.now }
 {
@@ -45,14 +45,14 @@ fn is_on_without(held: &[bool], out: u64, inodes: &[u64]) -> bool
         .any(|inode| is_held(held, *inode) && *inode != out)
 }
 
-/// Whether the right is granted where it is asked, without one inode's rule.
+/// Reports whether the right is granted where it is asked, without the rule on inode `out`.
 pub(crate) fn is_granted_without(held: &[bool], out: u64, right: Right, asked: &Asked) -> bool
     ensures { result ≡ is_granted (without out (is_at held.now)) right asked.now }
 {
     !asked.rights.holds(right) || is_on_without(held, out, &asked.inodes)
 }
 
-/// Whether the move lets the right not be gained, without one inode's rule.
+/// Reports whether the move gains nothing of the right, without the rule on inode `out`.
 pub(crate) fn is_gainless_without(held: &[bool], out: u64, right: Right, moved: &Moved) -> bool
     ensures { result ≡ is_gainless (without out (is_at held.now)) right moved.now }
 {
@@ -60,7 +60,7 @@ pub(crate) fn is_gainless_without(held: &[bool], out: u64, right: Right, moved: 
         || (!is_on_without(held, out, &moved.into) || is_on_without(held, out, &moved.from))
 }
 
-// Whether that is so wherever it is asked.
+// Reports whether each ask is granted, without the rule on inode `out`.
 fn are_granted_without(held: &[bool], out: u64, right: Right, asks: &[Asked]) -> bool
     ensures { result ≡ list_all (is_granted (without out (is_at held.now)) right) asks.now }
 {
@@ -68,7 +68,7 @@ fn are_granted_without(held: &[bool], out: u64, right: Right, asks: &[Asked]) ->
         .all(|asked| is_granted_without(held, out, right, asked))
 }
 
-// Whether that is so of each move.
+// Reports whether no move gains the right, without the rule on inode `out`.
 fn are_gainless_without(held: &[bool], out: u64, right: Right, moves: &[Moved]) -> bool
     ensures { result ≡ list_all (is_gainless (without out (is_at held.now)) right) moves.now }
 {
@@ -77,7 +77,7 @@ fn are_gainless_without(held: &[bool], out: u64, right: Right, moves: &[Moved]) 
         .all(|moved| is_gainless_without(held, out, right, moved))
 }
 
-// Whether what is needed of the right is met, without one inode's rule.
+// Reports whether the right's needs are met, without the rule on inode `out`.
 fn is_met_without(held: &[bool], out: u64, right: Right, needs: &Needs) -> bool
     ensures { result ≡ is_met (without out (is_at held.now)) right needs.now }
 {
@@ -85,14 +85,14 @@ fn is_met_without(held: &[bool], out: u64, right: Right, needs: &Needs) -> bool
         && are_gainless_without(held, out, right, &needs.moves)
 }
 
-// Whether the move lets the right not be gained.
+// Reports whether the move gains nothing of the right.
 fn is_gainless(held: &[bool], right: Right, moved: &Moved) -> bool
     ensures { result ≡ is_gainless (is_at held.now) right moved.now }
 {
     !moved.rights.holds(right) || (!is_on(held, &moved.into) || is_on(held, &moved.from))
 }
 
-// The inode's rule is to hold the right, or not to hold it.
+// Sets whether the inode's rule has the right.
 fn set_held(held: &mut Vec<bool>, inode: u64, value: bool)
     ensures { held.new.items ≡ slice_set held.old.items inode value }
 {
@@ -102,7 +102,7 @@ fn set_held(held: &mut Vec<bool>, inode: u64, value: bool)
     }
 }
 
-// A rule on the path is to hold the right.
+// Gives the right to a rule on the path.
 fn grow(held: &mut Vec<bool>, right: Right, inodes: &[u64], scope: &Scope)
     requires len { length held.old.items ≡ length scope.now.may.items }
     requires some { list_any (may_have scope.now right) inodes.now ≡ true }
@@ -116,7 +116,7 @@ fn grow(held: &mut Vec<bool>, right: Right, inodes: &[u64], scope: &Scope)
     }
 }
 
-// Rules are to hold the right wherever it is asked.
+// Gives the right to rules wherever it is asked.
 fn charge(held: &mut Vec<bool>, right: Right, asks: &[Asked], scope: &Scope)
     requires len { length held.old.items ≡ length scope.now.may.items }
     requires can { list_all (is_granted (may_have scope.now right) right) asks.now ≡ true }
@@ -130,7 +130,7 @@ fn charge(held: &mut Vec<bool>, right: Right, asks: &[Asked], scope: &Scope)
     }
 }
 
-// Rules on the nodes' own paths are to hold the right where moves would let it be gained. Whether any would.
+// Gives the right to rules on the nodes' own paths wherever moves would gain it. Returns whether any would.
 fn close_once(held: &mut Vec<bool>, right: Right, moves: &[Moved], scope: &Scope) -> bool
     requires known { right < 15 }
     requires scope { IsScope scope.now }
@@ -154,7 +154,7 @@ fn close_once(held: &mut Vec<bool>, right: Right, moves: &[Moved], scope: &Scope
     changed
 }
 
-// That again and again, until no move would let the right be gained.
+// Repeats that until no move gains the right.
 fn close(held: &mut Vec<bool>, right: Right, moves: &[Moved], scope: &Scope)
     requires known { right < 15 }
     requires scope { IsScope scope.now }
@@ -172,7 +172,7 @@ fn close(held: &mut Vec<bool>, right: Right, moves: &[Moved], scope: &Scope)
     }
 }
 
-// The inode's rule is not to hold the right, if what is needed is met all the same. Whether that is so.
+// Removes the right from the inode's rule if the needs are still met then. Returns whether they are.
 fn leave_out(held: &mut Vec<bool>, inode: u64, right: Right, needs: &Needs) -> bool
     ensures kept { result ≡ false → held.new.items ≡ held.old.items }
     ensures needed { result ≡ false → is_at held.old.items inode ≡ true
@@ -188,7 +188,7 @@ fn leave_out(held: &mut Vec<bool>, inode: u64, right: Right, needs: &Needs) -> b
     true
 }
 
-// Leaves out what can be left out, one inode after the other. Whether any could.
+// Removes the right from each inode's rule where it can be removed, in this order. Returns whether any could.
 fn prune_in(held: &mut Vec<bool>, right: Right, needs: &Needs, order: &[u64]) -> bool
     requires { is_met (is_at held.old.items) right needs.now ≡ true }
     ensures shrinks { Shrinks held.old.items held.new.items }
@@ -205,7 +205,7 @@ fn prune_in(held: &mut Vec<bool>, right: Right, needs: &Needs, order: &[u64]) ->
     changed
 }
 
-// That in the order of the inodes' numbers.
+// Does so in the order of the inodes' numbers.
 fn prune_all(held: &mut Vec<bool>, right: Right, needs: &Needs) -> bool
     requires { is_met (is_at held.old.items) right needs.now ≡ true }
     ensures shrinks { Shrinks held.old.items held.new.items }
@@ -224,7 +224,7 @@ fn prune_all(held: &mut Vec<bool>, right: Right, needs: &Needs) -> bool
     changed
 }
 
-// Leaves out what can be left out, until nothing can.
+// Removes the right wherever it can be removed, until it can't be anywhere.
 fn prune(held: &mut Vec<bool>, right: Right, needs: &Needs, order: &[u64])
     requires { is_met (is_at held.old.items) right needs.now ≡ true }
     ensures shrinks { Shrinks held.old.items held.new.items }
@@ -239,7 +239,7 @@ fn prune(held: &mut Vec<bool>, right: Right, needs: &Needs, order: &[u64])
     }
 }
 
-/// On which inodes rules hold the right in a layer of the scope from which nothing can be left out.
+/// Returns the inodes whose rules have the right in a layer of the scope, so that none can be left out.
 pub(crate) fn least_column(
     alloc: Global,
     right: Right,

@@ -38,7 +38,7 @@ use ll_why::{Asks, PathChains, kept_number};
 use std::alloc::{AllocError, Global};
 use std::slice;
 
-// What is found for a call that nothing refuses before policy is asked.
+// Returns what is found for a call, or None if it is refused before policy.
 fn found_for(tree: &Plain, caller: &ClientRecord, call: &Call) -> Option<Found>
     ensures refused { result ≡ None → before_policy tree.now caller.now call.now ≢ [] }
     ensures free { IfSome result (λ found. before_policy tree.now caller.now call.now ≡ []) }
@@ -54,7 +54,7 @@ fn found_for(tree: &Plain, caller: &ClientRecord, call: &Call) -> Option<Found>
     }
 }
 
-// What the entry opens, if anything.
+// Returns what the entry opens, if anything.
 fn opened_by(alloc: Global, tree: &Plain, entry: &Entry) -> Result<Option<Opened>, AllocError>
     ensures { IfOk result (Opens tree.now entry.now) }
 {
@@ -71,7 +71,7 @@ fn opened_by(alloc: Global, tree: &Plain, entry: &Entry) -> Result<Option<Opened
     }))
 }
 
-// Whether the entry is a move that is done.
+// Reports whether the entry is a move that succeeds.
 fn is_moved(entry: &Entry) -> bool
     ensures { result ≡ is_moved entry.now }
 {
@@ -81,7 +81,7 @@ fn is_moved(entry: &Entry) -> bool
     }
 }
 
-// If the layer is on the entry's client, its call isn't denied, and behind it there is room for one layer more.
+// Checks that the call isn't denied, and that its client then has room for one more layer, if it has the layer.
 fn stays_open(tree: &Plain, is_on: bool, entry: &Entry, number: usize) -> Result<(), LearnFault>
     requires { is_on ≡ true → has tree.now.clients entry.now.client ≡ true }
     ensures ok { OnOk result (is_on ≡ true → IsOpenAt tree.now entry.now) }
@@ -103,7 +103,7 @@ fn stays_open(tree: &Plain, is_on: bool, entry: &Entry, number: usize) -> Result
     }
 }
 
-// The client is there, with room for one layer more.
+// Checks that the client exists, with room for one more layer.
 fn has_room(tree: &Plain, client: u64) -> Result<(), LearnFault>
     ensures there { OnOk result (has tree.now.clients client ≡ true) }
     ensures room { OnOk result (length (client_of tree.now client).domain < DOMAIN_LAYERS) }
@@ -120,7 +120,7 @@ fn has_room(tree: &Plain, client: u64) -> Result<(), LearnFault>
 }
 
 impl Needs {
-    // Adds what is asked.
+    // Adds the rights that a call needs.
     fn add_asks(&mut self, alloc: Global, asks: &Asks, origin: Origin) -> Result<(), AllocError>
         ensures meets { OnOk result ((grants : List ℕ → ℕ → Bool) → Meets grants self.new
             ↔ (Meets grants self.old × AllowsAsked grants asks.now)) }
@@ -142,7 +142,7 @@ impl Needs {
         self.add_move(alloc, sets.back, other, parent, origin)
     }
 
-    // Adds what the entry's call asks, if the layer is on its client.
+    // Adds what the entry's call needs, if the layer is on its client.
     fn add_call(
         &mut self,
         alloc: Global,
@@ -188,7 +188,7 @@ impl Needs {
         self.add_asks(alloc, &asks, origin)
     }
 
-    // The first move that is done for a client whom the layer isn't on stays.
+    // Keeps the first successful move of a client that the layer isn't on.
     fn note_outside(&mut self, is_on: bool, entry: &Entry, origin: Origin)
         ensures asks { self.new.asks ≡ self.old.asks }
         ensures moves { self.new.moves ≡ self.old.moves }
@@ -200,7 +200,7 @@ impl Needs {
         }
     }
 
-    // Goes on by one entry.
+    // Continues with one entry.
     fn follow(
         &mut self,
         alloc: Global,
@@ -231,9 +231,9 @@ impl Needs {
         Ok(())
     }
 
-    /// Adds what these entries' calls ask, which are those of the history of this number behind a cut, where the tree
-    /// is: the client's calls, and those of all whom it and these spawn. Makes the entries' calls in the tree. After a
-    /// fault the needs and the tree are unspecified.
+    /// Adds what the calls of these entries need: those of the client, and of all clients spawned by any of them. The
+    /// entries follow a cut of the history with this number, where the tree is. Makes their calls in the tree. Errors:
+    /// the first fault; the needs and the tree are then unspecified.
     pub fn add(
         &mut self,
         alloc: Global,
@@ -250,7 +250,7 @@ impl Needs {
         ensures paths { OnOk result (ComeFrom tree.old entries.now self.old self.new) }
         ensures moves { OnOk result (MovesMore (WereThere tree.old entries.now) self.old self.new) }
 
-        // The first move that is done for a client whom the layer isn't on.
+        // The first successful move of a client that the layer isn't on.
         ensures outside { OnOk result (self.new.outside
             ≡ option_or self.old.outside (first_outside (is_client client) history 1 entries.now)) }
         ensures fault { IfErr result (IsFault tree.old client entries.now) }

@@ -1,4 +1,4 @@
-//! A layer that is being learned, and within which bounds.
+//! A layer while it is learned, and its bounds.
 
 ghost use Rattle.std.specs.Prelude.{◌≡◌, ◌<◌, ◌==◌, ◌&&◌, ◌||◌, ◌↔◌, ℕ, true, false, find, length, IfOk, IsTrue};
 ghost use Rattle.std.specs.List.{list_any};
@@ -16,33 +16,33 @@ use std::alloc::{AllocError, Global};
 pub struct Scope {
     /// The rights that the layer handles.
     pub handled: Access,
-    /// For each inode, by its number, the rights that a rule on it may hold.
+    /// For each inode, by its number, the rights that a rule on it may have.
     pub may: Vec<Access>,
-    /// Directories whose rules take what is asked below them.
+    /// Directories whose rules take what is needed below them.
     pub beneath: Vec<u64>,
-    /// The inodes, from the root down: of two rules that could each be left out, the earlier one goes.
+    /// The inodes, from the root down. If either of two rules could be left out, the earlier one is.
     pub order: Vec<u64>,
 }
 
-/// A layer that is being learned.
+/// A layer while it is learned.
 #[derive(Drop)]
 pub struct Draft {
     /// The rights that it handles.
     pub handled: Access,
-    /// For each inode, by its number, the rights of its rule; none where it has no rule.
+    /// For each inode, by its number, the rights of its rule; the empty set if it has none.
     pub rules: Vec<Access>,
 }
 
-/// Why a right stands in a rule.
+/// Why a rule has a right.
 #[derive(Clone, Copy)]
 pub enum Need {
-    /// This entry asks it, where no other rule grants it.
+    /// This entry needs it, and no other rule grants it.
     Asks(Origin),
-    /// This entry moves a node to where the right would be gained.
+    /// This entry moves a node to where it would gain the right.
     Moves(Origin),
 }
 
-// Whether the inode's set holds the right.
+// Reports whether the inode's set has the right.
 fn right_at(sets: &[Access], right: Right, inode: u64) -> bool
     ensures { result ≡ right_at sets.now right inode }
 {
@@ -50,14 +50,14 @@ fn right_at(sets: &[Access], right: Right, inode: u64) -> bool
     place < sets.len() && sets[place].holds(right)
 }
 
-// Whether the inode is among these.
+// Reports whether the inode is among these.
 fn is_among(inodes: &[u64], inode: u64) -> bool
     ensures { result ≡ list_any (λ i. i == inode) inodes.now }
 {
     inodes.iter().any(|i| *i == inode)
 }
 
-// The right too, where the test says so.
+// Adds the right if the test holds.
 fn with_if(rights: Access, right: Right, test: bool) -> Access
     ensures { (other : ℕ) → other < 15 → holds result.0 other ≡ (holds rights.0 other || ((other == right) && test)) }
 {
@@ -69,14 +69,14 @@ fn with_if(rights: Access, right: Right, test: bool) -> Access
 }
 
 impl Scope {
-    /// Whether a rule on the inode may hold the right.
+    /// Reports whether a rule on the inode may have the right.
     pub fn may_have(&self, right: Right, inode: u64) -> bool
         ensures { result ≡ may_have self.now right inode }
     {
         right_at(&self.may, right, inode)
     }
 
-    /// Whether a rule on the inode may hold any right.
+    /// Reports whether a rule on the inode may have any right.
     pub(crate) fn may_have_any(&self, inode: u64) -> bool
         ensures { (right : ℕ) → may_have self.now right inode ≡ true → result ≡ true }
     {
@@ -86,28 +86,28 @@ impl Scope {
         }
     }
 
-    /// Whether the layer restricts the right.
+    /// Reports whether the layer restricts the right.
     pub(crate) fn is_restricted(&self, right: Right) -> bool
         ensures { result ≡ is_restricted self.now right }
     {
         self.handled.holds(right) || right == Right::REFER
     }
 
-    // Whether some rule on the path may hold the right.
+    // Reports whether some rule on the path may have the right.
     fn may_have_on(&self, right: Right, inodes: &[u64]) -> bool
         ensures { result ≡ list_any (may_have self.now right) inodes.now }
     {
         inodes.iter().any(|inode| self.may_have(right, *inode))
     }
 
-    /// Whether the right isn't asked, or some rule on the path may hold it.
+    /// Reports whether the right isn't asked, or some rule on the path may have it.
     pub(crate) fn can_grant(&self, right: Right, asked: &Asked) -> bool
         ensures { result ≡ is_granted (may_have self.now right) right asked.now }
     {
         !asked.rights.holds(right) || self.may_have_on(right, &asked.inodes)
     }
 
-    // The last of the inodes whose rule may hold the right.
+    // Returns the last of the inodes whose rule may have the right.
     fn last_of(&self, right: Right, inodes: &[u64]) -> Option<u64>
         ensures { result ≡ last_of (may_have self.now right) inodes.now }
     {
@@ -120,14 +120,14 @@ impl Scope {
         last
     }
 
-    // Whether the right is asked, and this inode is the last of the path whose rule may hold it.
+    // Reports whether the right is asked, and this inode is the last of the path whose rule may have it.
     fn is_charge(&self, right: Right, inode: u64, asked: &Asked) -> bool
         ensures { result ≡ is_charge self.now right inode asked.now }
     {
         asked.rights.holds(right) && self.is_last(right, inode, &asked.inodes)
     }
 
-    // Whether this inode is the last of those whose rule may hold the right.
+    // Reports whether this inode is the last of those whose rule may have the right.
     fn is_last(&self, right: Right, inode: u64, inodes: &[u64]) -> bool
         ensures { result ≡ is_some_at (last_of (may_have self.now right) inodes.now) inode }
     {
@@ -137,14 +137,14 @@ impl Scope {
         }
     }
 
-    // Whether the inode takes what is asked below it, and its rule may hold the right.
+    // Reports whether the inode takes what is needed below it, and its rule may have the right.
     fn is_upper(&self, right: Right, inode: u64) -> bool
         ensures { result ≡ is_upper self.now right inode }
     {
         self.may_have(right, inode) && is_among(&self.beneath, inode)
     }
 
-    // The first of the inodes that is so.
+    // Returns the first such inode.
     fn upper_of(&self, right: Right, inodes: &[u64]) -> Option<u64>
         ensures { result ≡ find (is_upper self.now right) inodes.now }
     {
@@ -154,7 +154,7 @@ impl Scope {
             .find(|inode| self.is_upper(right, *inode))
     }
 
-    /// The inode of the path whose rule is to hold the right.
+    /// Returns the inode of the path whose rule is to have the right.
     pub(crate) fn place_of(&self, right: Right, inodes: &[u64]) -> Option<u64>
         ensures { result ≡ place_of self.now right inodes.now }
     {
@@ -166,7 +166,7 @@ impl Scope {
 }
 
 impl Draft {
-    /// No rules on so many inodes.
+    /// Returns a draft for this many inodes, without rules.
     pub(crate) fn without_rules(
         alloc: Global,
         handled: Access,
@@ -180,14 +180,14 @@ impl Draft {
         Ok(Draft { handled, rules })
     }
 
-    /// Whether the rule on the inode holds the right.
+    /// Reports whether the rule on the inode has the right.
     pub fn has(&self, right: Right, inode: u64) -> bool
         ensures { result ≡ has self.now right inode }
     {
         right_at(&self.rules, right, inode)
     }
 
-    /// Rules hold the right on these inodes too.
+    /// Adds the right to the rules on these inodes.
     pub(crate) fn put(&mut self, right: Right, held: &[bool])
         requires { length held.now ≡ length self.old.rules.items }
         ensures handled { self.new.handled ≡ self.old.handled }
@@ -200,7 +200,7 @@ impl Draft {
         }
     }
 
-    /// On which inodes rules hold the right.
+    /// Returns, for each inode, whether its rule has the right.
     pub(crate) fn column(&self, alloc: Global, right: Right) -> Result<Vec<bool>, AllocError>
         ensures { IfOk result (λ held. (inode : ℕ) → is_at held.items inode ≡ has self.now right inode) }
     {
@@ -210,7 +210,7 @@ impl Draft {
             .collect(alloc)
     }
 
-    // Whether the right is asked where this inode is the last whose rule may hold it.
+    // Reports whether the right is asked on a path where this inode is the last whose rule may have it.
     fn is_charged_on(scope: &Scope, needs: &Needs, right: Right, inode: u64) -> bool
         ensures { result ≡ list_any (is_charge scope.now right inode) needs.now.asks.items }
     {
@@ -220,7 +220,7 @@ impl Draft {
             .any(|asked| scope.is_charge(right, inode, asked))
     }
 
-    // Whether that is so of each rule that holds the right.
+    // Reports whether that holds for each rule with the right.
     fn is_charged_with(&self, scope: &Scope, needs: &Needs, right: Right) -> bool
         ensures { IsTrue result ↔ ((inode : ℕ) → has self.now right inode ≡ true
             → list_any (is_charge scope.now right inode) needs.now.asks.items ≡ true) }
@@ -233,8 +233,8 @@ impl Draft {
         true
     }
 
-    /// Whether each right of each rule is asked on a path of which no later inode's rule may hold it. So it is where
-    /// nothing was widened, and nothing mended that a move would gain.
+    /// Reports whether each right of each rule is asked on a path where no rule further down may have it. That holds if
+    /// nothing was widened, and no move had to be mended.
     pub fn is_charged(&self, scope: &Scope, needs: &Needs) -> bool
         ensures { IsTrue result ↔ IsCharged scope.now needs.now self.now }
     {

@@ -6,16 +6,16 @@ ghost use Rattle.ll_learn.specs.declared.fault.LearnFault.TheVariants as late;
 use crate::needs::Origin;
 use std::alloc::AllocError;
 
-/// Why no layer can be learned from the entries behind a cut. Entries are counted from 1.
+/// Why no layer can be learned from the entries after a cut. Entries are counted from 1.
 #[derive(Clone, Copy, Debug, PartialEq, Eq)]
 pub enum LearnFault {
-    /// The client isn't there at the cut.
+    /// The client doesn't exist at the cut.
     NoClient,
-    /// The entry of this number is the first illegal one.
+    /// The entry with this number is the first illegal one.
     Illegal(usize),
-    /// The entry's call is denied, to a client whom the layer is to be on.
+    /// The entry's call is denied, and its client is to have the layer.
     Denied(usize),
-    /// Behind the entry, or at the cut if the number is 0, a client whom the layer is to be on has no room for it.
+    /// After the entry (or at the cut, if the number is 0), a client that is to have the layer has no room for it.
     Full(usize),
     NoMemory,
 }
@@ -28,22 +28,23 @@ impl From<AllocError> for LearnFault {
     }
 }
 
-/// Why nothing is learned from histories. They and paths are counted from 0, entries from 1, in the whole history.
+/// Why nothing is learned from histories. Histories and paths are counted from 0, and entries from 1, in the whole
+/// history.
 #[derive(Clone, Copy, Debug, PartialEq, Eq)]
 pub enum Unlearned {
-    /// No such client connects in the history of this number.
+    /// No such client connects in the history with this number.
     NoClient(usize),
-    /// Up to the client's connect, this history isn't as the first one.
+    /// Up to the client's connect, this history differs from the first one.
     Unlike(usize),
-    /// The entry of this number is the first illegal one.
+    /// The entry with this number is the first illegal one.
     Illegal(Origin),
-    /// The entry's call is denied already, to a client whom the layer is to be on.
+    /// The entry's call is denied already, and its client is to have the layer.
     Denied(Origin),
-    /// Behind the entry, a client whom the layer is to be on has no room for it.
+    /// After the entry, a client that is to have the layer has no room for it.
     Full(Origin),
-    /// No layer within the aim lets all calls pass. The entry asks what none of them grants.
+    /// Under no layer within the aim do all calls pass. The entry needs what none of them grants.
     Unmet(Origin),
-    /// The path of this index names no node whose rule could take what is asked below it.
+    /// The path with this index leads to no node whose rule could take what is needed below it.
     NoNode(usize),
     NoMemory,
 }

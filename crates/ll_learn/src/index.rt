@@ -4,10 +4,10 @@ ghost use Rattle.std.specs.Prelude.{◌≡◌, ◌<◌, ◌++◌, [], ◌∷◌,
 
 use std::alloc::{AllocError, Global};
 
-/// Inodes are told apart by their remainders by this.
+/// Inodes are hashed by their remainders modulo this.
 const SLOTS: usize = 1_024;
 
-/// Places in a list of paths, by the last inodes of the paths. It only saves time: what it finds is compared again.
+/// Indexes of a list of paths, by the last inodes of the paths. It only saves time: what it finds is compared again.
 #[derive(Drop)]
 pub struct PathIndex {
     slots: Vec<Vec<usize>>,
@@ -22,7 +22,7 @@ fn slot_of(inodes: &[u64]) -> usize
     }
 }
 
-// The slot comes behind the others.
+// Appends the slot.
 fn push_slot(slots: &mut Vec<Vec<usize>>, one: Vec<usize>) -> Result<(), AllocError>
     ensures { OnOk result (slots.new.items ≡ slots.old.items ++ one ∷ []) }
 {
@@ -36,14 +36,14 @@ fn push_slot(slots: &mut Vec<Vec<usize>>, one: Vec<usize>) -> Result<(), AllocEr
 }
 
 impl PathIndex {
-    /// Of no paths.
+    /// Returns the index of no paths.
     pub fn new(alloc: Global) -> PathIndex {
         PathIndex {
             slots: Vec::new(alloc),
         }
     }
 
-    /// The places of the paths that may end as this one does.
+    /// Returns the places of the paths that may end like this one.
     pub fn places(&self, inodes: &[u64]) -> &[usize] {
         match self.slots.get(slot_of(inodes)) {
             Some(places) => places.as_slice(),
@@ -51,7 +51,7 @@ impl PathIndex {
         }
     }
 
-    /// The path lies at this place.
+    /// Adds a path at this place. Errors: memory ran out.
     pub fn note(&mut self, alloc: Global, inodes: &[u64], place: usize) -> Result<(), AllocError> {
         let slot = slot_of(inodes);
         while self.slots.len() <= slot {

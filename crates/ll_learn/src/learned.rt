@@ -1,4 +1,4 @@
-//! What is learned from histories.
+//! Learns from histories.
 
 ghost use Rattle.std.specs.Prelude.{◌≡◌, ◌<◌, ◌≤◌, ◌-◌, ◌^◌, ℕ, true, IfErr, IfOk, map};
 ghost use Rattle.ll_rights.specs.Access.{holds};
@@ -34,13 +34,13 @@ pub struct Aim<'a> {
     pub client: u64,
     /// The rights that the layer handles.
     pub handled: Access,
-    /// Those of them that no rule may hold.
+    /// The handled rights that no rule may have.
     pub never: Access,
-    /// Nodes whose rules take what is asked below them.
+    /// Nodes whose rules take what is needed below them.
     pub beneath: &'a [Path],
 }
 
-// Where rules may stand in a tree.
+// Where rules may be in a tree.
 #[derive(Drop)]
 struct Frame {
     sites: Sites,
@@ -49,14 +49,14 @@ struct Frame {
 }
 
 impl Aim<'_> {
-    // The rights that rules may hold.
+    // Returns the rights that rules may have.
     fn held(&self) -> Access
         ensures { (right : ℕ) → right < 15 → holds result.0 right ≡ may_hold self.now right }
     {
         Access(self.handled.0 & !self.never.0)
     }
 
-    // The nodes whose rules take what is asked below them.
+    // Returns the nodes whose rules take what is needed below them.
     fn inodes(&self, alloc: Global, tree: &Plain) -> Result<Vec<u64>, Unlearned>
         ensures { IfErr result (IsUnframed tree.now self.now) }
     {
@@ -73,7 +73,7 @@ impl Aim<'_> {
         Ok(inodes)
     }
 
-    // Where rules may stand in this tree. The client has no layer there.
+    // Returns where rules may be in this tree. The client has no layer there.
     fn frame(&self, alloc: Global, mut tree: Plain) -> Result<Frame, Unlearned>
         requires caller { has tree.clients self.now.client ≡ true }
         requires next { tree.next < 2 ^ 64 - 1 }
@@ -93,7 +93,7 @@ impl Aim<'_> {
     }
 }
 
-// The entry that asks what no layer of a scope can grant, with so many entries in front.
+// Returns the entry that needs what no layer of a scope can grant, after this many entries.
 fn entry_of(needs: &Needs, ask: usize, cut: usize) -> Origin {
     match needs.asks.get(ask) {
         Some(asked) => Origin {
@@ -108,7 +108,7 @@ fn entry_of(needs: &Needs, ask: usize, cut: usize) -> Origin {
 }
 
 impl Frame {
-    // The profile that meets the needs of histories that were cut behind so many entries.
+    // Returns the profile that meets the needs of histories cut after this many entries.
     fn profile(&self, alloc: Global, needs: &Needs, cut: usize) -> Result<LearnedProfile, Unlearned>
         requires scope { IsScope self.now.scope }
         requires sites { IsOfSites self.now.sites self.now.scope }
@@ -124,8 +124,8 @@ impl Frame {
     }
 }
 
-/// Learns one layer from histories of trees that were opened so: from what each has behind the client's first connect.
-/// Up to there all are alike.
+/// Learns one layer from histories of trees created with this header. Learns from the entries after the client's first
+/// connect; up to there, all histories must be equal. Errors: the first fault.
 pub fn learn(
     alloc: Global,
     header: &Header,

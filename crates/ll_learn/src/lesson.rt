@@ -16,8 +16,8 @@ use crate::solution::{DraftFault, least_draft};
 use crate::still::SiteChains;
 use std::alloc::Global;
 
-// Whether each right of the draft is asked where no later rule may hold it, or else no directory that nodes move into
-// has moved, and nobody else moves anything.
+// Reports whether the draft is least. One case: each of its rights is asked on a path where no rule further down may
+// have it. The other: no directory that nodes move into has moved, and nobody else moves anything.
 fn is_least(draft: &Draft, scope: &Scope, needs: &Needs, chains: &SiteChains) -> bool
     ensures why { result ≡ true → IsCharged scope.now needs.now draft.now ⊎ IsUnmoved chains.now scope.now needs.now }
     ensures alone { result ≡ true → needs.now.outside ≡ None }
@@ -28,8 +28,8 @@ fn is_least(draft: &Draft, scope: &Scope, needs: &Needs, chains: &SiteChains) ->
     draft.is_charged(scope, needs) || (scope.beneath.is_empty() && chains.is_still(scope, needs))
 }
 
-/// Returns the profile of a layer of the scope that meets the needs, and doesn't without any one right of any one rule.
-/// Its rules are on these nodes. The directories among them have these chains.
+/// Returns the profile of a layer of the scope that meets the needs, but not without any one right of any one rule. Its
+/// rules are on these nodes. The directories among them have these chains.
 pub(crate) fn profile_of(
     alloc: Global,
     needs: &Needs,

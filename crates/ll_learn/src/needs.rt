@@ -16,48 +16,48 @@ pub struct Origin {
     pub entry: usize,
 }
 
-/// Rights that a call asks on one path.
+/// Rights that a call needs on one path.
 #[derive(Drop)]
 pub struct Asked {
     pub rights: Access,
-    /// The path's inodes, from the root on, as they were.
+    /// The path's inodes at that time, from the root on.
     pub inodes: Vec<u64>,
-    /// Which entry asks them first.
+    /// The first entry that needs them.
     pub origin: Origin,
 }
 
-/// A node that a call gives a name in another directory.
+/// A node that gets a name in another directory.
 #[derive(Drop)]
 pub struct Moved {
-    /// The rights that mean something for the node.
+    /// The rights that apply to the node.
     pub rights: Access,
-    /// The inodes of its own path, from the root on, as they were.
+    /// The inodes of its own path at that time, from the root on.
     pub from: Vec<u64>,
-    /// Those of the directory.
+    /// The inodes of the directory's path.
     pub into: Vec<u64>,
-    /// Which entry moves it so first.
+    /// The first entry that moves it like this.
     pub origin: Origin,
 }
 
-/// What a layer has to grant, and must not let be gained.
+/// The rights that a layer has to grant, and those that no move may gain.
 #[derive(Drop)]
 pub struct Needs {
     pub asks: Vec<Asked>,
     pub moves: Vec<Moved>,
-    /// The first move that is done for a client whom the layer isn't on.
+    /// The first successful move of a client that the layer isn't on.
     pub outside: Option<Origin>,
     ask_places: PathIndex,
     move_places: PathIndex,
 }
 
-/// The same inodes, in a vector of its own.
+/// Returns a copy of the inodes.
 pub(crate) fn copy_of(alloc: Global, inodes: &[u64]) -> Result<Vec<u64>, AllocError>
     ensures { IfOk result (λ copy. copy.items ≡ inodes.now) }
 {
     inodes.to_vec(alloc)
 }
 
-// Whether both are one path. Most that differ end differently.
+// Reports whether both are the same path. Compares the last inodes first, as most paths differ there.
 fn is_same(one: &[u64], other: &[u64]) -> bool
     ensures { IsTrue result → one.now ≡ other.now }
 {
@@ -65,7 +65,7 @@ fn is_same(one: &[u64], other: &[u64]) -> bool
 }
 
 impl Asked {
-    // Whether it asks these rights on this path.
+    // Reports whether it asks these rights on this path.
     fn has(&self, rights: Access, inodes: &[u64]) -> bool
         ensures rights { IsTrue result → is_within rights.0 self.now.rights.0 ≡ true }
         ensures inodes { IsTrue result → self.now.inodes.items ≡ inodes.now }
@@ -75,7 +75,7 @@ impl Asked {
 }
 
 impl Moved {
-    // Whether it is a move between these paths, with these rights.
+    // Reports whether it is a move between these paths, with these rights.
     fn has(&self, rights: Access, from: &[u64], into: &[u64]) -> bool
         ensures rights { IsTrue result → is_within rights.0 self.now.rights.0 ≡ true }
         ensures from { IsTrue result → self.now.from.items ≡ from.now }
@@ -85,7 +85,7 @@ impl Moved {
     }
 }
 
-// The ask comes behind the others.
+// Appends the ask.
 fn push_ask(asks: &mut Vec<Asked>, one: Asked) -> Result<(), AllocError>
     ensures { OnOk result (asks.new.items ≡ asks.old.items ++ one ∷ []) }
 {
@@ -98,7 +98,7 @@ fn push_ask(asks: &mut Vec<Asked>, one: Asked) -> Result<(), AllocError>
     }
 }
 
-// The move comes behind the others.
+// Appends the move.
 fn push_move(moves: &mut Vec<Moved>, one: Moved) -> Result<(), AllocError>
     ensures { OnOk result (moves.new.items ≡ moves.old.items ++ one ∷ []) }
 {
@@ -111,7 +111,7 @@ fn push_move(moves: &mut Vec<Moved>, one: Moved) -> Result<(), AllocError>
     }
 }
 
-// Whether one that lies at one of these places asks these rights on this path.
+// Reports whether an ask at one of these places has these rights on this path.
 fn has_ask(asks: &[Asked], places: &[usize], rights: Access, inodes: &[u64]) -> bool
     ensures { IsTrue result → HasAsk asks.now rights.0 inodes.now }
 {
@@ -128,7 +128,7 @@ fn has_ask(asks: &[Asked], places: &[usize], rights: Access, inodes: &[u64]) -> 
     false
 }
 
-// Whether one that lies at one of these places moves a node so.
+// Reports whether a move at one of these places has these rights and paths.
 fn has_move(moves: &[Moved], places: &[usize], rights: Access, from: &[u64], into: &[u64]) -> bool
     ensures { IsTrue result → HasMove moves.now rights.0 from.now into.now }
 {
@@ -146,7 +146,7 @@ fn has_move(moves: &[Moved], places: &[usize], rights: Access, from: &[u64], int
 }
 
 impl Needs {
-    /// No needs.
+    /// Returns no needs.
     pub fn new(alloc: Global) -> Needs
         ensures meets { (grants : List ℕ → ℕ → Bool) → Meets grants result }
         ensures rooted { AreRooted result }
@@ -163,7 +163,7 @@ impl Needs {
         }
     }
 
-    // Whether nothing has to be added to ask the rights on the path.
+    // Reports whether the rights are asked on the path already.
     fn has_asked(&self, rights: Access, inodes: &[u64]) -> bool
         ensures { IsTrue result → (grants : List ℕ → ℕ → Bool) → Meets grants self.now
             → GrantsAll grants rights.0 inodes.now }
@@ -175,7 +175,7 @@ impl Needs {
         has_ask(&self.asks, places, rights, inodes)
     }
 
-    // Whether nothing has to be added to move a node so.
+    // Reports whether such a move is there already.
     fn has_moved(&self, rights: Access, from: &[u64], into: &[u64]) -> bool
         ensures { IsTrue result → (grants : List ℕ → ℕ → Bool) → Meets grants self.now
             → GivesNone grants rights.0 from.now into.now }
@@ -187,7 +187,7 @@ impl Needs {
         has_move(&self.moves, places, rights, from, into)
     }
 
-    /// Asks the rights on the path.
+    /// Adds an ask for the rights on the path.
     pub(crate) fn add_ask(
         &mut self,
         alloc: Global,
@@ -217,7 +217,7 @@ impl Needs {
         )
     }
 
-    /// Moves a node for which these rights mean something.
+    /// Adds the move of a node to which these rights apply.
     pub(crate) fn add_move(
         &mut self,
         alloc: Global,

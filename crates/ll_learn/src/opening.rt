@@ -1,4 +1,4 @@
-//! What several histories begin with.
+//! The part that several histories begin with.
 
 ghost use Rattle.std.specs.Prelude.{◌≡◌, ◌<◌, ◌≤◌, ◌+◌, ◌^◌, ℕ, IfErr, IfNone, IfOk, IfSome, OnOk, drop, length, map};
 ghost use Rattle.ll_rights.specs.declared.limits.TheConstants.{TREE_NODES};
@@ -17,14 +17,14 @@ use ll_seq::Entry;
 use ll_wire::Header;
 use std::alloc::Global;
 
-// Whether the client connects.
+// Reports whether the client connects.
 fn connects_as(client: u64, entry: &Entry) -> bool
     ensures { result ≡ connects_as client entry.now }
 {
     entry.client == client && entry.call.is_connect()
 }
 
-/// How many entries there are up to the client's first connect, if it connects.
+/// Returns the number of entries up to and including the client's first connect, or None if it doesn't connect.
 pub fn cut_of(entries: &[Entry], client: u64) -> Option<usize>
     ensures some { IfSome result (λ cut. IsCut entries.now client cut × (cut ≤ length entries.now)) }
     ensures few { IfSome result (λ cut. cut < 2 ^ 63) }
@@ -38,7 +38,7 @@ pub fn cut_of(entries: &[Entry], client: u64) -> Option<usize>
     None
 }
 
-// What an audit of the entries up to a cut finds.
+// Converts the fault that an audit finds up to a cut.
 fn unopened(fault: AuditFault, history: usize) -> Unlearned
     ensures { result ≡ unopened_by history fault }
 {
@@ -48,7 +48,7 @@ fn unopened(fault: AuditFault, history: usize) -> Unlearned
     }
 }
 
-// The entry of this number behind a cut.
+// Returns the entry with this number after a cut.
 fn behind(cut: usize, history: usize, entry: usize) -> Origin
     requires { cut + entry < 2 ^ 64 }
     ensures { result ≡ entry_behind cut history entry }
@@ -59,7 +59,7 @@ fn behind(cut: usize, history: usize, entry: usize) -> Origin
     }
 }
 
-/// The entries that histories begin with, up to a client's first connect, in a tree that was opened so.
+/// The entries that histories begin with, up to a client's first connect, in a tree created with this header.
 #[derive(Drop)]
 pub(crate) struct Opening<'a> {
     pub header: &'a Header,
@@ -68,7 +68,7 @@ pub(crate) struct Opening<'a> {
 }
 
 impl Opening<'_> {
-    /// Returns the tree behind these entries, which are of this history.
+    /// Returns the tree after these entries, which are this history's.
     pub(crate) fn tree(&self, alloc: Global, history: usize) -> Result<Plain, Unlearned>
         requires some { 1 ≤ self.now.header.now.nodes }
         requires most { self.now.header.now.nodes ≤ TREE_NODES }
@@ -86,7 +86,7 @@ impl Opening<'_> {
         }
     }
 
-    // The entries of a history that begins so, behind the cut.
+    // Returns the entries after the cut, of a history that must begin with the same entries.
     fn late<'b>(&self, entries: &'b [Entry], history: usize) -> Result<&'b [Entry], Unlearned>
         ensures begins { OnOk result (BeginsSo self.now.early.now self.now.client entries.now) }
         ensures late { IfOk result (λ late. late.now ≡ drop (length self.now.early.now) entries.now) }
@@ -103,7 +103,7 @@ impl Opening<'_> {
         }
     }
 
-    // What keeps the needs of a history from being gathered behind the cut.
+    // Converts the fault that keeps a history's needs from being gathered.
     fn fault(&self, fault: LearnFault, history: usize) -> Unlearned
         requires { length self.now.early.now + number_of fault < 2 ^ 64 }
         ensures { result ≡ unlearned_by (length self.now.early.now) history fault }
@@ -118,7 +118,7 @@ impl Opening<'_> {
         }
     }
 
-    // Adds what a history needs behind the cut.
+    // Adds a history's needs after the cut.
     fn gather(
         &self,
         alloc: Global,
@@ -142,7 +142,7 @@ impl Opening<'_> {
         }
     }
 
-    /// Gathers what the histories need behind the cut.
+    /// Gathers the needs of all histories after the cut.
     pub(crate) fn needs(&self, alloc: Global, histories: &[&[Entry]]) -> Result<Needs, Unlearned>
         requires some { 1 ≤ self.now.header.now.nodes }
         requires most { self.now.header.now.nodes ≤ TREE_NODES }

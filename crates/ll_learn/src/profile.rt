@@ -1,4 +1,4 @@
-//! Learned profiles, and their text as a policy has it.
+//! Learned profiles, and their text in the policy format.
 
 ghost use Rattle.std.specs.Prelude.{◌≡◌, ◌++◌, ◌<◌, IfOk, OnOk, map, string_bytes};
 ghost use Rattle.std.specs.List.{concat, flat_map};
@@ -16,7 +16,7 @@ use std::alloc::{AllocError, Global};
 /// A rule of a learned layer.
 #[derive(Drop)]
 pub struct LearnedRule {
-    /// The node at the cut, and a path that names it there.
+    /// The node at the cut, and a path that leads to it there.
     pub inode: u64,
     pub path: Path,
     pub rights: Access,
@@ -24,7 +24,7 @@ pub struct LearnedRule {
     pub needed_by: Option<Origin>,
 }
 
-/// What comments say of entries.
+/// The comments on entries.
 pub trait Notes {
     ghost use Rattle.std.specs.Prelude.{ℕ, List, IfOk, string_bytes, ◌≡◌};
     ghost use Rattle.ll_learn.specs.declared.needs.Origin as origins;
@@ -39,7 +39,7 @@ pub trait Notes {
 /// A profile of one layer.
 #[derive(Drop)]
 pub struct LearnedProfile {
-    /// Whether each layer under which the calls pass grants all that this one grants.
+    /// Whether each layer under which the calls pass grants everything that this one grants.
     pub is_least: bool,
     pub handled: Access,
     pub rules: Vec<LearnedRule>,
@@ -88,7 +88,7 @@ fn head_line(is_least: bool) -> &'static str
     }
 }
 
-// The comment on the entry, if there is one.
+// Returns the comment on the entry, if there is one.
 fn comment<N: Notes>(alloc: Global, notes: &N, entry: Option<Origin>) -> Result<String, AllocError>
     ensures { IfOk result (λ text. string_bytes text ≡ comment (N.note notes.now) entry) }
 {
@@ -100,7 +100,7 @@ fn comment<N: Notes>(alloc: Global, notes: &N, entry: Option<Origin>) -> Result<
 }
 
 impl LearnedRule {
-    // The call that adds it to the client's first ruleset.
+    // Returns the call that adds the rule to the client's first ruleset.
     fn call(&self, alloc: Global) -> Result<Call, AllocError>
         ensures { IfOk result (λ call. call ≡ call_of self.now) }
     {
@@ -108,7 +108,7 @@ impl LearnedRule {
         Ok(Call::Allow(0, Target::Good(path), self.rights))
     }
 
-    // Its table in the profile of this name.
+    // Returns the rule's table, in the profile with this name.
     fn text<N: Notes>(&self, alloc: Global, notes: &N, name: &str) -> Result<String, AllocError>
         ensures { IfOk result (λ text. string_bytes text ≡ rule_text (N.note notes.now) name.now self.now) }
     {
@@ -132,7 +132,7 @@ impl LearnedRule {
     }
 }
 
-// The tables of these rules.
+// Returns the tables of these rules.
 fn rules_text<N: Notes>(
     alloc: Global,
     notes: &N,

@@ -18,7 +18,7 @@ use crate::solution::need_of;
 use ll_rights::{Access, Right};
 use std::alloc::{AllocError, Global};
 
-// The rights of the draft's rule on the inode.
+// Returns the rights of the draft's rule on the inode.
 fn rights_on(draft: &Draft, inode: u64) -> Access
     ensures known { result.0 < 2 ^ 15 }
     ensures rights { (right : ℕ) → right < 15 → holds result.0 right ≡ has draft.now right inode }
@@ -31,7 +31,7 @@ fn rights_on(draft: &Draft, inode: u64) -> Access
     }
 }
 
-// The entry that the need is of.
+// Returns the entry that has the need.
 fn origin_of(need: Need) -> Origin
     ensures { result ≡ origin_of need }
 {
@@ -41,7 +41,7 @@ fn origin_of(need: Need) -> Origin
     }
 }
 
-// The earlier one of two entries, if there are two.
+// Returns the earlier of two entries. `first` may be missing.
 fn earlier(first: Option<Origin>, second: Origin) -> Origin
     ensures { (first ≡ Some result) ⊎ (result ≡ second) }
 {
@@ -51,7 +51,7 @@ fn earlier(first: Option<Origin>, second: Origin) -> Origin
     }
 }
 
-// The earlier one of the first entry so far and the one that needs this right on the inode, if one does.
+// Returns the earlier of the first entry so far and the one, if any, that needs this right on the inode.
 fn with_need(
     alloc: Global,
     draft: &Draft,
@@ -72,7 +72,7 @@ fn with_need(
     }
 }
 
-// The first entry that needs one of the rights of the rule on the inode.
+// Returns the first entry that needs one of the rights of the rule on the inode.
 fn first_need(
     alloc: Global,
     draft: &Draft,
@@ -88,7 +88,7 @@ fn first_need(
     Ok(first)
 }
 
-// The draft's rule on the node, if it has one.
+// Returns the draft's rule on the node, if it has one.
 fn rule_on(
     alloc: Global,
     draft: &Draft,
@@ -119,7 +119,7 @@ fn rule_on(
     }))
 }
 
-// The rule comes behind the others.
+// Appends the rule.
 fn push_rule(rules: &mut Vec<LearnedRule>, rule: LearnedRule) -> Result<(), AllocError>
     ensures { OnOk result (rules.new.items ≡ rules.old.items ++ rule ∷ []) }
 {
@@ -132,7 +132,7 @@ fn push_rule(rules: &mut Vec<LearnedRule>, rule: LearnedRule) -> Result<(), Allo
     }
 }
 
-// The draft's rule on the node comes behind the others, if it has one.
+// Appends the draft's rule on the node, if it has one.
 fn add_rule(
     alloc: Global,
     draft: &Draft,

@@ -1,4 +1,4 @@
-//! Where nodes are in a tree, and what rules on them may grant.
+//! Where nodes are in a tree, and which rights rules on them may have.
 
 ghost use Rattle.std.specs.Prelude.{◌≡◌, ◌<◌, ◌-◌, ◌^◌, ◌++◌, ◌==◌, ◌∷◌, [], ℕ, false, true, IfOk, IfSome, OnOk, None};
 ghost use Rattle.std.specs.Prelude.{Some, length, option_and_then, slice_get, string_bytes};
@@ -23,13 +23,13 @@ use std::alloc::{AllocError, Global};
 #[derive(Drop)]
 pub struct Site {
     pub inode: u64,
-    /// A path that names it.
+    /// A path that leads to it.
     pub path: Path,
-    /// What a rule on it may grant.
+    /// The rights that a rule on it may have.
     pub may: Access,
 }
 
-// What stands under the name in the directory that was found so far.
+// Returns the inode of the name in the directory found so far.
 fn below(tree: &Plain, end: Option<u64>, name: &str) -> Option<u64>
     ensures { result ≡ option_and_then (λ d. child tree.now d name.now) end }
 {
@@ -39,7 +39,7 @@ fn below(tree: &Plain, end: Option<u64>, name: &str) -> Option<u64>
     }
 }
 
-/// The node that the path names.
+/// Returns the node that the path leads to.
 pub(crate) fn end_of(tree: &Plain, path: &Path) -> Option<u64>
     ensures { result ≡ named tree.now path.now }
 {
@@ -50,7 +50,7 @@ pub(crate) fn end_of(tree: &Plain, path: &Path) -> Option<u64>
     end
 }
 
-// Whether the inode is a directory's.
+// Reports whether the inode is a directory's.
 fn is_dir(tree: &Plain, inode: u64) -> bool
     ensures { result ≡ option_map_or is_dir (kind_of tree.now inode) false }
 {
@@ -60,7 +60,7 @@ fn is_dir(tree: &Plain, inode: u64) -> bool
     }
 }
 
-// What a rule on the inode may grant of these rights.
+// Returns which of these rights a rule on the inode may have.
 fn may_grant(tree: &Plain, all: Access, inode: u64) -> Access
     ensures { result.0 ≡ may_grant tree.now all.0 inode }
 {
@@ -74,7 +74,7 @@ fn may_grant(tree: &Plain, all: Access, inode: u64) -> Access
 }
 
 impl Site {
-    // The node that the path names, where rules may grant of these rights. None if the path names none.
+    // Returns the site that the path leads to, where rules may have some of these rights. None if it leads to no node.
     fn of_path(tree: &Plain, all: Access, path: Path) -> Option<Site>
         requires { IsSpelt path }
         ensures site { IfSome result (IsSite tree.now all.0) }
@@ -87,7 +87,7 @@ impl Site {
     }
 }
 
-// A copy of the text, as a word.
+// Returns a copy of the text as a word.
 fn word_of(alloc: Global, text: &str) -> Result<Word, AllocError>
     requires { IsWord text.now }
     ensures { IfOk result (λ word. word ≡ text.now) }
@@ -98,7 +98,7 @@ fn word_of(alloc: Global, text: &str) -> Result<Word, AllocError>
     }
 }
 
-// The path that the text spells, if it spells one.
+// Returns the path that the text spells, if any.
 fn path_of(text: String) -> Option<Path>
     ensures some { IfSome result (λ path. path ≡ path_of_text (string_bytes text)) }
     ensures spelt { IfSome result IsSpelt }
@@ -113,7 +113,7 @@ fn path_of(text: String) -> Option<Path>
     }
 }
 
-// The root's path.
+// Returns the root's path.
 fn root_path(alloc: Global) -> Result<Path, AllocError>
     ensures { IfOk result (λ path. path ≡ []) }
 {
@@ -123,7 +123,7 @@ fn root_path(alloc: Global) -> Result<Path, AllocError>
     }
 }
 
-/// A copy of the path. Errors: memory ran out.
+/// Returns a copy of the path. Errors: memory ran out.
 pub(crate) fn copy_of(alloc: Global, path: &Path) -> Result<Path, AllocError>
     ensures { IfOk result (λ copy. copy ≡ path.now) }
 {
@@ -133,7 +133,7 @@ pub(crate) fn copy_of(alloc: Global, path: &Path) -> Result<Path, AllocError>
     }
 }
 
-// The text of the path with one name more.
+// Returns the text of the path with one more name.
 fn text_below(alloc: Global, path: &Path, name: &Name) -> Result<String, AllocError>
     ensures text { IfOk result (λ text. string_bytes text ≡ path_text (path.now ++ name.now ∷ [])) }
     ensures path { IfOk result (λ text. path_of_text (string_bytes text) ≡ path.now ++ name.now ∷ []) }
@@ -146,7 +146,7 @@ fn text_below(alloc: Global, path: &Path, name: &Name) -> Result<String, AllocEr
     Ok(text)
 }
 
-// The path with one name more. None if no word spells it.
+// Returns the path with one more name. None if no word spells it.
 fn path_below(alloc: Global, path: &Path, name: &Name) -> Result<Option<Path>, AllocError>
     ensures some { IfOk result (λ found. IfSome found (λ below. below ≡ path.now ++ name.now ∷ [])) }
     ensures spelt { IfOk result (λ found. IfSome found IsSpelt) }
@@ -155,7 +155,7 @@ fn path_below(alloc: Global, path: &Path, name: &Name) -> Result<Option<Path>, A
     Ok(path_of(text_below(alloc, path, name)?))
 }
 
-// The names in the directory, which the client may list.
+// Returns the names in the directory, which the client may list.
 fn names_in(
     alloc: Global,
     tree: &mut Plain,
@@ -174,7 +174,7 @@ fn names_in(
     }
 }
 
-// The site comes behind the others.
+// Appends the site.
 fn push_site(rows: &mut Vec<Site>, site: Site) -> Result<(), AllocError>
     ensures { OnOk result (rows.new.items ≡ rows.old.items ++ site ∷ []) }
 {
@@ -196,7 +196,7 @@ pub struct Sites {
 impl Sites {
     ghost use Rattle.ll_learn.specs.declared.site.Site as sites_of;
 
-    // The root alone.
+    // Returns only the root.
     fn of_root(alloc: Global, all: Access) -> Result<Sites, AllocError>
         ensures { IfOk result (λ sites. (s : State) → AreSites s all.0 sites) }
     {
@@ -210,14 +210,14 @@ impl Sites {
         })
     }
 
-    // Whether the inode's is among them.
+    // Reports whether there is a site of the inode.
     fn has(&self, inode: u64) -> bool
         ensures { result ≡ list_any (λ site. site.inode == inode) self.now.rows.items }
     {
         self.rows.iter().any(|site| site.inode == inode)
     }
 
-    // Adds the node that the path names, unless it is among them.
+    // Adds the node that the path leads to, unless it is there.
     fn add(&mut self, tree: &Plain, all: Access, path: Path) -> Result<(), AllocError>
         requires spelt { IsSpelt path }
         requires sites { AreSites tree.now all.0 self.old }
@@ -234,7 +234,7 @@ impl Sites {
         push_site(&mut self.rows, site)
     }
 
-    // Adds the node under the name, right below the path, unless no word spells its path.
+    // Adds the node with this name directly below the path, unless no word spells its path.
     fn add_name(
         &mut self,
         alloc: Global,
@@ -255,7 +255,7 @@ impl Sites {
         }
     }
 
-    // The same for each of these names.
+    // Adds the nodes with each of these names.
     fn add_names(
         &mut self,
         alloc: Global,
@@ -277,7 +277,7 @@ impl Sites {
         Ok(())
     }
 
-    // Adds what is directly below the node of this index.
+    // Adds what is directly below the node with this index.
     fn add_below(
         &mut self,
         alloc: Global,
@@ -305,8 +305,8 @@ impl Sites {
         self.add_names(alloc, tree, all, &above, names.names())
     }
 
-    /// Returns the nodes that command lines can name, where rules may grant of these rights. The client, which has no
-    /// layer, lists the directories. Errors: memory ran out.
+    /// Returns the nodes that command lines can name, where rules may have some of these rights. Lists the directories
+    /// as the client, which has no layer. Errors: memory ran out.
     pub fn of_tree(
         alloc: Global,
         tree: &mut Plain,
@@ -320,7 +320,7 @@ impl Sites {
         ensures all { IfOk result (λ sites. IsReached tree.old → AreAll tree.old sites) }
     {
         let mut sites = Sites::of_root(alloc, all)?;
-        // What is below one row comes behind the others.
+        // What is below a row is appended after it.
         for index in 0..usize::MAX {
             if index >= sites.rows.len() {
                 return Ok(sites);

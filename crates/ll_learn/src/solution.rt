@@ -18,7 +18,7 @@ use std::alloc::{AllocError, Global};
 /// Why no layer was learned.
 #[derive(Debug, Drop)]
 pub enum DraftFault {
-    /// The ask of this number, from 0, has a right that no rule on its path may hold.
+    /// The ask with this number, counted from 0, has a right that no rule on its path may have.
     Unmet(usize),
     NoMemory,
 }
@@ -34,7 +34,7 @@ impl From<AllocError> for DraftFault {
     }
 }
 
-// Whether what is asked has a right that is restricted and that no rule on the path may hold.
+// Reports whether the ask has a right that is restricted and that no rule on the path may have.
 fn is_unmet(scope: &Scope, asked: &Asked) -> bool
     ensures unmet { result ≡ true → (right : ℕ) × (right < 15) × (is_restricted scope.now right ≡ true)
         × (is_granted (may_have scope.now right) right asked.now ≡ false) }
@@ -49,7 +49,7 @@ fn is_unmet(scope: &Scope, asked: &Asked) -> bool
     false
 }
 
-// The first ask that isn't met by any layer of the scope.
+// Returns the first ask that no layer of the scope meets.
 fn first_unmet(scope: &Scope, asks: &[Asked]) -> Option<usize>
     ensures some { IfSome result (IsUnmet scope.now asks.now) }
     ensures none { IfNone result ((right : ℕ) → right < 15 → is_restricted scope.now right ≡ true
@@ -63,7 +63,7 @@ fn first_unmet(scope: &Scope, asks: &[Asked]) -> Option<usize>
     None
 }
 
-// Rules that hold what is needed, one right after the other.
+// Returns rules that meet the needs, one right after the other.
 fn draft_of(alloc: Global, needs: &Needs, scope: &Scope) -> Result<Draft, AllocError>
     requires scope { IsScope scope.now }
     requires rooted { AreRooted needs.now }
@@ -84,7 +84,8 @@ fn draft_of(alloc: Global, needs: &Needs, scope: &Scope) -> Result<Draft, AllocE
     Ok(draft)
 }
 
-/// A layer of the scope that meets the needs, and doesn't without any one right of any one rule.
+/// Returns a layer of the scope that meets the needs, but not without any one right of any one rule. Errors: an ask
+/// that no layer of the scope meets, or memory ran out.
 pub fn least_draft(alloc: Global, needs: &Needs, scope: &Scope) -> Result<Draft, DraftFault>
     requires scope { IsScope scope.now }
     requires rooted { AreRooted needs.now }
@@ -110,7 +111,7 @@ pub fn least_draft(alloc: Global, needs: &Needs, scope: &Scope) -> Result<Draft,
     Ok(draft)
 }
 
-// The first ask that isn't granted without one inode's rule.
+// Returns the first ask that isn't granted without the rule on inode `out`.
 fn first_ungranted(held: &[bool], out: u64, right: Right, asks: &[Asked]) -> Option<Need>
     ensures some { IfSome result (IsNeed (without out (is_at held.now)) right asks.now []) }
     ensures none { result ≡ None → list_all (is_granted (without out (is_at held.now)) right) asks.now ≡ true }
@@ -123,7 +124,7 @@ fn first_ungranted(held: &[bool], out: u64, right: Right, asks: &[Asked]) -> Opt
     None
 }
 
-// The first move that lets the right be gained without one inode's rule.
+// Returns the first move that gains the right without the rule on inode `out`.
 fn first_gain(held: &[bool], out: u64, right: Right, moves: &[Moved]) -> Option<Need>
     ensures some { IfSome result (IsNeed (without out (is_at held.now)) right [] moves.now) }
     ensures none { result ≡ None → list_all (is_gainless (without out (is_at held.now)) right) moves.now ≡ true }
@@ -136,8 +137,8 @@ fn first_gain(held: &[bool], out: u64, right: Right, moves: &[Moved]) -> Option<
     None
 }
 
-/// Why the rule on the inode has to hold the right: the first ask that isn't granted without it, or else the first
-/// move that would let it be gained. None if the needs are met without it.
+/// Returns why the rule on the inode must have the right: the first ask that isn't granted without it, or else the
+/// first move that would gain it. None if the needs are met without it. Errors: memory ran out.
 pub fn need_of(
     alloc: Global,
     draft: &Draft,

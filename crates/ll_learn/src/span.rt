@@ -1,4 +1,4 @@
-//! Which layers have rules on the nodes of a tree alone.
+//! The layers whose rules are only on the nodes of a tree.
 
 ghost use Rattle.std.specs.Prelude.{◌≡◌, ◌<◌, ◌==◌, ◌&&◌, ◌||◌, ℕ, true, All, IfOk, length};
 ghost use Rattle.ll_rights.specs.Access.{holds};
@@ -11,7 +11,7 @@ use crate::site::{Site, Sites};
 use ll_rights::Access;
 use std::alloc::{AllocError, Global};
 
-// One more than the greatest inode. Errors: no memory has room for so many.
+// Returns one more than the greatest inode. Errors: memory can't have room for that many.
 fn count_of(rows: &[Site]) -> Result<usize, AllocError>
     ensures { IfOk result (λ count. All (λ site. site.inode < count) rows.now) }
 {
@@ -25,7 +25,7 @@ fn count_of(rows: &[Site]) -> Result<usize, AllocError>
     Ok(count as usize)
 }
 
-// The inode's rule may hold these rights too.
+// Adds these rights to those that the inode's rule may have.
 fn put(may: &mut Vec<Access>, inode: u64, rights: Access)
     requires { inode < length may.old.items }
     ensures len { length may.new.items ≡ length may.old.items }
@@ -36,7 +36,7 @@ fn put(may: &mut Vec<Access>, inode: u64, rights: Access)
     may[site] = may[site].with(rights);
 }
 
-// For each inode, by its number, what a rule on it may hold.
+// Returns, for each inode by its number, the rights that a rule on it may have.
 fn may_of(alloc: Global, sites: &Sites, held: Access) -> Result<Vec<Access>, AllocError>
     ensures { IfOk result (λ may. AreOfSites sites.now held.0 may.items) }
 {
@@ -49,8 +49,8 @@ fn may_of(alloc: Global, sites: &Sites, held: Access) -> Result<Vec<Access>, All
 }
 
 impl Sites {
-    /// Returns the scope of the layers that handle these rights and whose rules on these nodes hold only the held ones.
-    /// Rules on the nodes beneath take what is asked below them. Errors: memory ran out.
+    /// Returns the scope of the layers that handle these rights and whose rules are on these nodes with only the held
+    /// rights. Rules on the nodes `beneath` take what is needed below them. Errors: memory ran out.
     pub fn scope(
         &self,
         alloc: Global,

@@ -1,4 +1,4 @@
-//! Whether directories have the nodes above them that they had.
+//! Whether directories still have the directories above them that they had.
 
 ghost use Rattle.std.specs.Prelude.{◌≡◌, ◌++◌, ◌∷◌, [], IfOk, IfSome, IsTrue, OnOk};
 ghost use Rattle.ll_seq.specs.State.{State};
@@ -16,21 +16,21 @@ use ll_seq::Call;
 use ll_why::PathChains;
 use std::alloc::{AllocError, Global};
 
-/// A directory, and the inodes of a path that names it, from the root on.
+/// A directory, and the inodes of a path that leads to it, from the root on.
 #[derive(Drop)]
 struct DirectorySite {
     inode: u64,
     inodes: Vec<u64>,
 }
 
-/// The directories of a tree, as they were.
+/// The directories of a tree at one time.
 #[derive(Drop)]
 pub(crate) struct SiteChains {
     rows: Vec<DirectorySite>,
     places: PathIndex,
 }
 
-// The inodes of the path, from the root on.
+// Returns the inodes of the path, from the root on.
 fn inodes_of(alloc: Global, tree: &Plain, path: &Path) -> Result<Vec<u64>, AllocError>
     ensures { IfOk result (λ inodes. inodes.items ≡ ancestors tree.now path.now) }
 {
@@ -40,7 +40,7 @@ fn inodes_of(alloc: Global, tree: &Plain, path: &Path) -> Result<Vec<u64>, Alloc
 }
 
 impl DirectorySite {
-    // The directory that the path names, if it names one.
+    // Returns the directory that the path leads to, if any.
     fn of_path(
         alloc: Global,
         tree: &Plain,
@@ -60,7 +60,7 @@ impl DirectorySite {
         }
     }
 
-    // Whether it is this directory, by a path of these inodes.
+    // Reports whether it is this directory, by a path with these inodes.
     fn is_by(&self, inode: u64, inodes: &[u64]) -> bool
         ensures inode { IsTrue result → self.now.inode ≡ inode }
         ensures inodes { IsTrue result → self.now.inodes.items ≡ inodes.now }
@@ -69,7 +69,7 @@ impl DirectorySite {
     }
 }
 
-// The directory comes behind the others.
+// Appends the directory.
 fn push_directory(rows: &mut Vec<DirectorySite>, row: DirectorySite) -> Result<(), AllocError>
     ensures { OnOk result (rows.new.items ≡ rows.old.items ++ row ∷ []) }
 {
@@ -83,7 +83,7 @@ fn push_directory(rows: &mut Vec<DirectorySite>, row: DirectorySite) -> Result<(
 }
 
 impl SiteChains {
-    // Of no directories.
+    // Returns the chains of no directories.
     fn new(alloc: Global) -> SiteChains
         ensures { (s : State) → AreSiteChains s result }
     {
@@ -93,7 +93,7 @@ impl SiteChains {
         }
     }
 
-    // With one directory more.
+    // Adds one more directory.
     fn push(&mut self, alloc: Global, row: DirectorySite) -> Result<(), AllocError>
         ensures { OnOk result (self.new.rows.items ≡ self.old.rows.items ++ row ∷ []) }
     {
@@ -101,7 +101,7 @@ impl SiteChains {
         push_directory(&mut self.rows, row)
     }
 
-    /// Of the directories among these nodes, in this tree. Errors: memory ran out.
+    /// Returns the chains of the directories among these nodes, in this tree. Errors: memory ran out.
     pub(crate) fn of_sites(
         alloc: Global,
         tree: &Plain,
@@ -118,7 +118,7 @@ impl SiteChains {
         Ok(chains)
     }
 
-    // Whether this directory is among them, by a path of these inodes.
+    // Reports whether this directory is among them, by a path with these inodes.
     fn has(&self, inode: u64, inodes: &[u64]) -> bool
         ensures { IsTrue result → (s : State) → AreSiteChains s self.now → IsPathTo s inode inodes.now }
     {
@@ -135,7 +135,7 @@ impl SiteChains {
         false
     }
 
-    // Whether each directory on the path whose rule may hold a right is among them, by the path up to it.
+    // Reports whether each directory on the path whose rule may have a right is among them, by the path up to it.
     fn are_on(&self, scope: &Scope, inodes: &[u64]) -> bool
         ensures { IsTrue result → (s : State) → AreSiteChains s self.now → ArePathsTo s scope.now inodes.now }
     {
@@ -147,7 +147,7 @@ impl SiteChains {
         true
     }
 
-    /// Whether that is so of the path of each directory that a node moves into: none of them has moved.
+    /// Reports whether that holds for the path of each directory that a node moves into: none of them has moved.
     pub(crate) fn is_still(&self, scope: &Scope, needs: &Needs) -> bool
         ensures { IsTrue result → (s : State) → AreSiteChains s self.now → IsStill s needs.now scope.now }
     {

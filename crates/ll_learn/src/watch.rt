@@ -1,4 +1,4 @@
-//! Whom a layer is on, and by which paths they have opened their files.
+//! The clients that a layer is on, and the paths by which they opened their files.
 
 ghost use Rattle.std.specs.Prelude.{◌≡◌, ◌<◌, ◌||◌, ◌==◌, ◌++◌, [], ◌∷◌, ℕ, Bool, false, IfOk, IfNone, IfSome, OnOk};
 ghost use Rattle.std.specs.Prelude.{length};
@@ -20,25 +20,25 @@ use std::alloc::{AllocError, Global};
 #[derive(Drop)]
 pub struct Opened {
     pub descriptor: u64,
-    /// The path's inodes, from the root on, as they were then.
+    /// The path's inodes at that time, from the root on.
     pub inodes: Vec<u64>,
 }
 
-/// A client whom the layer is on.
+/// A client that the layer is on.
 #[derive(Drop)]
 struct Watched {
     client: u64,
-    /// What it has opened since, or has from the client that spawned it.
+    /// What it has opened since, or got from the client that spawned it.
     opened: Vec<Opened>,
 }
 
-/// Those whom a layer is on.
+/// The clients that a layer is on.
 #[derive(Drop)]
 pub struct Watch {
     clients: Vec<Watched>,
 }
 
-// The place of the descriptor.
+// Returns the index of the descriptor.
 fn descriptor_place(opened: &[Opened], descriptor: u64) -> Option<usize>
     ensures none { IfNone result (find (is_descriptor descriptor) opened.now ≡ None) }
     ensures within { IfSome result (λ i. i < length opened.now) }
@@ -47,7 +47,7 @@ fn descriptor_place(opened: &[Opened], descriptor: u64) -> Option<usize>
     opened.iter().position(|held| held.descriptor == descriptor)
 }
 
-// The place of the client.
+// Returns the index of the client.
 fn client_place(clients: &[Watched], client: u64) -> Option<usize>
     ensures none { IfNone result (find (is_client_of client) clients.now ≡ None) }
     ensures within { IfSome result (λ i. i < length clients.now) }
@@ -56,7 +56,7 @@ fn client_place(clients: &[Watched], client: u64) -> Option<usize>
     clients.iter().position(|watched| watched.client == client)
 }
 
-// The opening comes behind the others.
+// Appends the opening.
 fn push_opened(opened: &mut Vec<Opened>, one: Opened) -> Result<(), AllocError>
     ensures { OnOk result (opened.new.items ≡ opened.old.items ++ one ∷ []) }
 {
@@ -69,7 +69,7 @@ fn push_opened(opened: &mut Vec<Opened>, one: Opened) -> Result<(), AllocError>
     }
 }
 
-// The client comes behind the others.
+// Appends the client.
 fn push_client(clients: &mut Vec<Watched>, one: Watched) -> Result<(), AllocError>
     ensures { OnOk result (clients.new.items ≡ clients.old.items ++ one ∷ []) }
 {
@@ -82,7 +82,7 @@ fn push_client(clients: &mut Vec<Watched>, one: Watched) -> Result<(), AllocErro
     }
 }
 
-// The same descriptors, opened by the same paths.
+// Returns a copy of these openings.
 fn copies(alloc: Global, opened: &[Opened]) -> Result<Vec<Opened>, AllocError>
     ensures { IfOk result (λ copies. (fd : ℕ) → path_opened copies.items fd ≡ path_opened opened.now fd) }
 {
@@ -95,7 +95,7 @@ fn copies(alloc: Global, opened: &[Opened]) -> Result<Vec<Opened>, AllocError>
     Ok(copies)
 }
 
-// The client that the reply tells of as spawned.
+// Returns the spawned client in the reply.
 fn spawned_client(reply: &Reply) -> Option<u64>
     ensures some { IfSome result (λ child. reply.now ≡ Reply.Spawned child) }
     ensures none { IfNone result ((client : ℕ) → is_spawned client reply.now ≡ false) }
@@ -107,7 +107,7 @@ fn spawned_client(reply: &Reply) -> Option<u64>
 }
 
 impl Watched {
-    // The inodes of the path by which it opened the descriptor, as far as known.
+    // Returns the inodes of the path by which it opened the descriptor, if known.
     fn path(&self, descriptor: u64) -> Option<&[u64]>
         ensures { option_map (λ inodes. inodes.now) result ≡ path_opened self.now.opened.items descriptor }
     {
@@ -117,7 +117,7 @@ impl Watched {
         }
     }
 
-    // With this descriptor, opened by the path of these inodes.
+    // Records the descriptor, opened by the path with these inodes.
     fn open(&mut self, descriptor: u64, inodes: Vec<u64>) -> Result<(), AllocError>
         ensures client { self.new.client ≡ self.old.client }
         ensures paths { OnOk result ((fd : ℕ) → path_opened self.new.opened.items fd
@@ -134,7 +134,7 @@ impl Watched {
 }
 
 impl Watch {
-    /// The client alone, who has opened nothing.
+    /// Watches only this client, which has opened nothing. Errors: memory ran out.
     pub fn of(alloc: Global, client: u64) -> Result<Watch, AllocError>
         ensures on { IfOk result (λ watch. (other : ℕ) → is_watched watch.clients.items other ≡ (client == other)) }
         ensures paths { IfOk result (λ watch. (other fd : ℕ) → paths_opened watch.clients.items other fd ≡ None) }
@@ -145,7 +145,7 @@ impl Watch {
         Ok(Watch { clients })
     }
 
-    /// Whether the layer is on the client.
+    /// Reports whether the layer is on the client.
     pub fn is_on(&self, client: u64) -> bool
         ensures { result ≡ is_watched self.now.clients.items client }
     {
@@ -155,7 +155,7 @@ impl Watch {
         }
     }
 
-    /// The inodes of the path by which the client opened the descriptor, as far as known.
+    /// Returns the inodes of the path by which the client opened the descriptor, if known.
     pub fn opened(&self, client: u64, descriptor: u64) -> Option<&[u64]>
         ensures { option_map (λ inodes. inodes.now) result ≡ paths_opened self.now.clients.items client descriptor }
     {
@@ -165,7 +165,7 @@ impl Watch {
         }
     }
 
-    // What the client has opened, as far as known.
+    // Returns what the client is known to have opened.
     fn all_opened(&self, alloc: Global, client: u64) -> Result<Vec<Opened>, AllocError>
         ensures { IfOk result (λ opened. (fd : ℕ) → path_opened opened.items fd
             ≡ paths_opened self.now.clients.items client fd) }
@@ -176,7 +176,8 @@ impl Watch {
         }
     }
 
-    // The client opens the descriptor by the path of these inodes. Nothing changes where the layer isn't on it.
+    // Records that the client opened the descriptor by the path with these inodes. Does nothing if the layer isn't on
+    // it.
     fn open(&mut self, client: u64, descriptor: u64, inodes: Vec<u64>) -> Result<(), AllocError>
         ensures on { (other : ℕ) → is_watched self.new.clients.items other ≡ is_watched self.old.clients.items other }
         ensures paths { OnOk result ((other fd : ℕ) → paths_opened self.new.clients.items other fd
@@ -188,7 +189,7 @@ impl Watch {
         }
     }
 
-    // The layer is on this client too, which is spawned by the other. It has what that one has.
+    // Adds a client spawned by the other. It has what that one has.
     fn join(&mut self, alloc: Global, parent: u64, child: u64) -> Result<(), AllocError>
         requires { is_watched self.old.clients.items child ≡ false }
         ensures { OnOk result (Joins self.old.clients.items self.new.clients.items parent child) }
@@ -203,7 +204,7 @@ impl Watch {
         )
     }
 
-    /// With one entry more, which opens this, if anything.
+    /// Updates the watch after one more entry, which opens this, if anything. Errors: memory ran out.
     pub fn follow(
         &mut self,
         alloc: Global,

@@ -1,4 +1,4 @@
--- A change that a client makes: what is given for it, what comes of it. Cited by contracts between crates alone. own
+-- A client's change: what is given for it, and what it results in. Cited by contracts between crates alone. own
 use Rattle.std.specs.Prelude.{◌≡◌, ◌⊎◌, ℕ, ◌+◌, ◌<◌, ◌≤◌, ◌^◌, ◌-◌, true, ◌==◌, List, [], ◌∷◌, ◌++◌, Option}
 use Rattle.std.specs.Prelude.{Some, None, slice_get, slice_set, slice_index_or, length, if◌then◌else◌}
 use Rattle.std.specs.List.{AllByRecursion, list_any}
@@ -16,7 +16,7 @@ use Rattle.ll_node.specs.declared.held.Held.{Held}
 use Rattle.ll_node.specs.InodeTable.{Table, IsTable, AreDistinct, NotIn, without_inode}
 use Rattle.ll_node.specs.Accounts.{account, accounts}
 
--- a history led to it
+-- some legal history leads to this state
 pub record IsReached (s : State) : Type 0 where
   pub rules : Rules
   pub room : ℕ
@@ -24,8 +24,8 @@ pub record IsReached (s : State) : Type 0 where
   pub legal : IsLegal (start rules room) entries
   pub is : s ≡ state_after (start rules room) entries
 
--- Where a client makes a change: the state of the tree, the walks that stand in it, the spare slots of all clients, and
--- which client it is, by its number and by the place of its spare slot
+-- Where a client makes a change: the tree's state, the walks' marks, all clients' spare slots, and which client it is
+-- (its number, and the index of its spare slot)
 pub record Scene : Type 0 where
   pub state : State
   pub marks : ℕ → Option ℕ
@@ -33,7 +33,7 @@ pub record Scene : Type 0 where
   pub number : ℕ
   pub place : ℕ
 
--- What it has in hand: its record and spare slot, the table of inodes, the slots that are lent and what lies in them
+-- What the change works on: the client's record and spare slot, the table of inodes, the lent slots and what they hold
 pub record InHand : Type 0 where
   pub client : ClientRecord
   pub spare : ℕ
@@ -45,7 +45,7 @@ abbrev pub in_hand : ClientRecord → ℕ → Table → List ℕ → List Held �
 in_hand client spare table slots lent =
     record { client = client; spare = spare; table = table; slots = slots; lent = lent }
 
--- what is in hand is true of the tree
+-- what is in hand agrees with the tree
 pub record IsGiven (scene : Scene) (hand : InHand) : Type 0 where
   pub reached : IsReached scene.state
   pub counted : IsTable scene.state scene.spares hand.table
@@ -57,20 +57,20 @@ pub record IsGiven (scene : Scene) (hand : InHand) : Type 0 where
   pub told : hand.lent ≡ accounts scene.state scene.marks hand.table.inodes hand.slots
   pub unmarked : scene.marks scene.state.next ≡ None
 
--- the slots are those of the nodes that the change touches, and of the spare where it makes one
+-- the lent slots include those of the nodes that the change touches, and the spare if it creates a node
 pub record Covers (hand : InHand) (change : Change) : Type 0 where
   pub touched :
       AllByRecursion (λ i. list_any (λ k. slice_index_or hand.table.inodes k 0 == i) hand.slots ≡ true)
       (changed_inodes change)
   pub new : makes change ≡ true → list_any (λ k. k == hand.spare) hand.slots ≡ true
 
--- A node was made: it lies in the client's spare slot, and the last of the free ones is the spare now
+-- a node was created: it is in the client's old spare slot, and the last free slot is the new spare
 pub record TakesFree (later : State) (spare : ℕ) (table : Table) (new : InHand) : Type 0 where
   pub made : has later.nodes table.next ≡ true
   pub free : table.free ≡ new.table.free ++ new.spare ∷ []
   pub inodes : new.table.inodes ≡ slice_set table.inodes spare table.next
 
--- A node is gone: its slot, which is lent, is the last of the free ones
+-- a node was removed: its slot, one of those lent, is now the last free slot
 pub record GivesBack (scene : Scene) (later : State) (hand : InHand) (table : Table) : Type 0 where
   pub slot : ℕ
   pub lent : list_any (λ k. k == slot) hand.slots ≡ true
@@ -79,19 +79,19 @@ pub record GivesBack (scene : Scene) (later : State) (hand : InHand) (table : Ta
   pub inodes : table.inodes ≡ without_inode hand.table.inodes (slice_index_or hand.table.inodes slot 0)
   pub free : table.free ≡ hand.table.free ++ slot ∷ []
 
--- no slot is taken, and none comes back
+-- no slot was taken and none was freed
 pub record KeepsSlots (old new : Table) : Type 0 where
   pub inodes : new.inodes ≡ old.inodes
   pub free : new.free ≡ old.free
 
--- The client's spare is another only where a node was made
+-- the table's slots after a change. The client's spare slot changes only if a node was created
 abbrev pub LeavesTable : Scene → State → InHand → InHand → Type 0
 LeavesTable scene later old new =
     ((slice_get scene.spares scene.place ≡ Some new.spare) × KeepsSlots old.table new.table)
     ⊎ TakesFree later (slice_index_or scene.spares scene.place 0) old.table new
     ⊎ ((slice_get scene.spares scene.place ≡ Some new.spare) × GivesBack scene later old new.table)
 
--- what is in hand then is true of the tree after
+-- what is in hand afterwards agrees with the tree after the change
 pub record IsMade (scene : Scene) (later : State) (old new : InHand) : Type 0 where
   pub counted : IsTable later (slice_set scene.spares scene.place new.spare) new.table
   pub next : new.table.next ≤ old.table.next + 1
@@ -103,13 +103,13 @@ pub record IsMade (scene : Scene) (later : State) (old new : InHand) : Type 0 wh
       → account later scene.marks new.table.inodes k ≡ account scene.state scene.marks old.table.inodes k
   pub freed : LeavesTable scene later old new
 
--- so for each tree where it may be
+-- the change does so in each scene that fits what is in hand
 abbrev pub Enacts : Change → InHand → InHand → Type 0
 Enacts change old new =
     (scene : Scene) → IsGiven scene old → Fits scene.state old.client change → Covers old change
     → IsMade scene (after scene.state scene.number old.client change) old new
 
--- there is such a tree
+-- there is a scene where the change can be made
 pub record MayEnact (change : Change) (hand : InHand) : Type 0 where
   pub scene : Scene
   pub given : IsGiven scene hand

@@ -15,7 +15,7 @@ module _ {Y : Type 0} where
   abbrev pub names_kept : BTreeMap (String Y) ℕ → NameMap
   names_kept table = from_sorted (rows_of table.entries)
 
-  -- the bytes strictly rise, and each text is a name
+  -- the names strictly increase by their bytes, and each is a valid name
   abbrev pub AreRows : BTreeMap (String Y) ℕ → Type 0
   AreRows table =
       IsTrue (is_sorted (slice_cmp nat_cmp) (rows_of table.entries))

@@ -1,4 +1,4 @@
--- Codes, by which a slot and a directory's names can be a model's value.
+-- Codes with which a slot and a directory's names can be a model's value.
 use Rattle.std.specs.Prelude.{ℕ, List, Option, refl}
 use Rattle.std.specs.Coded.{Coded, code_by, coded×, coded_list, coded_option, coded_ℕ}
 use Rattle.ll_rights.specs.declared.kind.Kind.{Kind}

@@ -1,4 +1,4 @@
--- A code, by which the table of inodes can be a model's value.
+-- A code with which the table of inodes can be a model's value.
 use Rattle.std.specs.Prelude.{ℕ, List, refl}
 use Rattle.std.specs.Ordering.{nat_cmp}
 use Rattle.std.specs.Coded.{Coded, code_by, coded×, coded_list, coded_ℕ}

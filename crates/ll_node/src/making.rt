@@ -11,7 +11,7 @@ use ll_rights::Kind;
 use ll_seq::{At, ClientRecord, Opening};
 use std::alloc::{AllocError, Global};
 
-/// The index of the slot in the list.
+/// Returns the index of the slot in the list.
 fn place_of(slots: &[u64], slot: u64) -> Option<usize>
     ensures some { IfSome result (λ place. slice_get slots.now place ≡ Some slot) }
     ensures within { IfSome result (λ place. place < length slots.now) }

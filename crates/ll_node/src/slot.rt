@@ -63,7 +63,7 @@ impl Model for Slot {
     ghost invariant = { λ slot. has_names slot.held ≡ is_dir slot.kind };
 }
 
-/// Whether writing this many bytes at the offset would exceed the longest file.
+/// Reports whether writing this many bytes at the offset would exceed the longest file.
 fn ends_too_late(offset: u64, len: u64) -> bool
     ensures { result ≡ is_too_long (offset + len) }
 {
@@ -117,6 +117,7 @@ impl Slot {
         self.mark
     }
 
+    /// Sets the client whose walk has marked the node, or removes the mark.
     pub fn set_mark(&mut self, mark: Option<u64>)
         ensures { self.new ≡ record self.old { mark = mark } }
     {
@@ -157,7 +158,7 @@ impl Slot {
         Ok(())
     }
 
-    /// Sets the inode of an existing name. Returns the old inode. Takes no memory.
+    /// Sets the inode of an existing name. Returns the old inode. Takes no memory. Errors: ENOENT without that name.
     pub fn replace(&mut self, name: &str, inode: u64) -> Result<u64, Errno>
         ensures ok { OnOk result (self.new ≡ record self.old { names = insert self.old.names name.now inode }) }
         ensures had { IfOk result (λ had. get self.old.names name.now ≡ Some had) }
@@ -171,7 +172,8 @@ impl Slot {
         had.ok_or(Errno::ENOENT)
     }
 
-    /// Moves the inode from the old name to the new one, which must be free.
+    /// Moves the inode from the old name to the new one. Errors: ENOENT without the old name; EEXIST if the new one
+    /// exists; NoMemory. Nothing has changed then.
     pub fn rename(&mut self, old: &str, new: &str) -> Result<(), Errno>
         requires { IsName new.now }
         ensures ok { OnOk result (self.new ≡ record self.old { names = renamed self.old.names old.now new.now }) }
@@ -196,7 +198,7 @@ impl Slot {
         Ok(())
     }
 
-    /// Removes the name. Returns its inode. Takes no memory.
+    /// Removes the name. Returns its inode. Takes no memory. Errors: ENOENT without that name.
     pub fn remove(&mut self, name: &str) -> Result<u64, Errno>
         ensures ok { OnOk result (self.new ≡ record self.old { names = remove self.old.names name.now }) }
         ensures had { IfOk result (λ had. get self.old.names name.now ≡ Some had) }
@@ -232,7 +234,8 @@ impl Slot {
         }
     }
 
-    /// Overwrites from the offset on, and fills a gap before it with zeros. An empty write changes nothing.
+    /// Overwrites from the offset on, and fills a gap before it with zeros. An empty write changes nothing. Errors:
+    /// EFBIG if the bytes would end after the longest file; NoMemory. Nothing has changed then.
     pub fn write_at(&mut self, offset: u64, bytes: &[u8]) -> Result<(), Errno>
         requires { is_dir self.old.kind ≡ false }
         ensures ok { OnOk result (self.new ≡ record self.old { bytes = written self.old.bytes offset bytes.now }) }
@@ -255,7 +258,8 @@ impl Slot {
         Ok(())
     }
 
-    /// Sets the length. New bytes are zeros.
+    /// Sets the length, in bytes. New bytes are zeros. Errors: EFBIG if it exceeds the longest file; NoMemory. Nothing
+    /// has changed then.
     pub fn set_len(&mut self, len: u64) -> Result<(), Errno>
         requires { is_dir self.old.kind ≡ false }
         ensures ok { OnOk result (self.new ≡ record self.old { bytes = resized self.old.bytes len }) }

@@ -50,7 +50,7 @@ impl Model for Inodes {
     ghost invariant = { λ t. length t.inodes.items ≤ vec_capacity t.free };
 }
 
-/// The slots' inodes in a new tree: the root in the first slot, the others vacant.
+/// Returns the slots' inodes in a new tree: the root in the first slot, the others vacant.
 fn root_alone(alloc: Global, others: usize) -> Result<Vec<u64>, AllocError>
     requires { others < TREE_NODES + TREE_CLIENTS }
     ensures { IfOk result (λ inodes. inodes.items ≡ root ∷ replicate others 0) }
@@ -61,7 +61,7 @@ fn root_alone(alloc: Global, others: usize) -> Result<Vec<u64>, AllocError>
     Ok(inodes)
 }
 
-/// All slots but the first, with capacity for that one too.
+/// Returns all slots but the first, with capacity for that one too.
 fn all_free(alloc: Global, others: usize) -> Result<Vec<u64>, AllocError>
     requires { others < TREE_NODES + TREE_CLIENTS }
     ensures items { IfOk result (λ free. free.items ≡ range_with_len 1 others) }

@@ -5,7 +5,7 @@ use Rattle.std.specs.Ordering.{eq_by_cmp, nat_cmp}
 use Rattle.std.specs.Cmp.Lexicographic.{slice_cmp}
 use Rattle.ll_path.specs.Word.{IsVisible}
 
--- visible bytes without a slash (47), and neither of the two that mean a directory itself and its parent
+-- visible bytes without a slash (47); neither `.` (the directory itself) nor `..` (its parent)
 abbrev pub IsName : List ℕ → Type 0
 IsName bytes = (0 < length bytes) × (length bytes ≤ 255) × AllByRecursion (λ b. IsVisible b × (b ≢ 47)) bytes
     × (bytes ≢ codes ".") × (bytes ≢ codes "..")

@@ -7,15 +7,15 @@ use Rattle.ll_rights.specs.declared.errno.Errno.TheVariants.{EINVAL, ENAMETOOLON
 use Rattle.ll_rights.specs.Errno.{refuse}
 use Rattle.ll_path.specs.Name.{same_name}
 
--- the names from the root on; the root has none
+-- a path: its names from the root on. The root is the empty list
 abbrev pub Path : Type 0
 Path = List (List ℕ)
 
--- what stands between a text's slashes (47). `/` has no name
+-- the names between a text's slashes (47). `/` has none
 abbrev pub path_of_text : List ℕ → Path
 path_of_text text = if nat_lt (length text) 2 then [] else slice_split (λ b. b == 47) (drop 1 text)
 
--- empty, or one of the two that this profile leaves out
+-- no name: the empty text, and the two names that this profile excludes
 abbrev pub is_no_name : List ℕ → Bool
 is_no_name name = (length name == 0) || same_name name (codes ".") || same_name name (codes "..")
 
@@ -23,7 +23,7 @@ is_no_name name = (length name == 0) || same_name name (codes ".") || same_name 
 abbrev pub is_long_name : List ℕ → Bool
 is_long_name name = nat_lt 255 (length name)
 
--- Why a word is no path: the first is given. With its final NUL a path has at most PATH_MAX, 4,096 bytes
+-- Why a text is no path; the first reason is reported. With its final NUL a path has at most PATH_MAX, 4,096 bytes
 abbrev pub path_refusals : List ℕ → List Errno
 path_refusals text =
     refuse (nat_lt 4095 (length text)) ENAMETOOLONG
@@ -39,13 +39,13 @@ abbrev pub is_root : Path → Bool
 is_root [] = true
 is_root (name ∷ path) = false
 
--- the root is its own parent
+-- the path of the parent directory. The root is its own parent
 abbrev pub parent : Path → Path
 parent [] = []
 parent (name ∷ []) = []
 parent (name ∷ next ∷ path) = name ∷ parent (next ∷ path)
 
--- of the root the empty text
+-- the last name of a path, or the empty text for the root
 abbrev pub last_name : Path → List ℕ
 last_name [] = []
 last_name (name ∷ []) = name
@@ -57,7 +57,7 @@ is_beneath upper [] = false
 is_beneath [] (name ∷ lower) = true
 is_beneath (this ∷ upper) (name ∷ lower) = same_name this name && is_beneath upper lower
 
--- the longest common beginning
+-- the longest prefix that both paths share
 abbrev pub common : Path → Path → Path
 common [] q = []
 common (this ∷ p) [] = []

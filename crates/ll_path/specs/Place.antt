@@ -4,7 +4,7 @@ use Rattle.std.specs.List.{sum_by}
 use Rattle.ll_path.specs.Path.{Path}
 use Rattle.ll_path.specs.declared.place.Place.{Place}
 
--- before it there are that many of the path's names, each with a slash after it
+-- the number of the path's names before the place, and their length with a slash after each
 pub record IsPlace (path : Path) (place : Place) : Type 0 where
   pub within : place.depth ≤ length path
   pub before : place.byte ≡ sum_by (λ name. length name + 1) (take place.depth path)

@@ -1,4 +1,4 @@
--- What a call keeps of a word that stands where a path is wanted. own
+-- What a call keeps of a word that should be a path. own
 use Rattle.std.specs.Prelude.{◌≡◌, ℕ, List, [], Some, slice_get}
 use Rattle.ll_path.specs.declared.target.Target.{Target}
 use Rattle.ll_path.specs.declared.target.Target.TheVariants.{Good, Bad}

@@ -2,7 +2,7 @@
 use Rattle.std.specs.Prelude.{ℕ, ◌≤◌, ◌<◌, List, length}
 use Rattle.std.specs.List.{AllByRecursion}
 
--- a printed character of ASCII but the space
+-- a printable character of ASCII except the space
 abbrev pub IsVisible : ℕ → Type 0
 IsVisible b = (0x21 ≤ b) × (b ≤ 0x7e)
 

@@ -20,7 +20,7 @@ impl Model for Data {
 }
 
 impl Data {
-    /// Wraps the bytes. Gives them back if there are more than 4,096. Takes no memory.
+    /// Wraps the bytes. Takes no memory. Errors: the bytes, if there are more than 4,096.
     pub fn new(bytes: Vec<u8>) -> Result<Data, Vec<u8>>
         ensures ok { IfOk result (λ d. (length bytes.items ≤ 4096) × (d ≡ bytes.items)) }
         ensures err { IfErr result (λ back. (4096 < length bytes.items) × (back ≡ bytes)) }
@@ -49,6 +49,7 @@ impl Data {
         Ok(Data { bytes })
     }
 
+    /// Returns the number of bytes.
     pub fn len(&self) -> usize
         ensures len { result ≡ length self.now }
         ensures short { result ≤ 4096 }

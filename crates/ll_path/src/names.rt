@@ -9,7 +9,7 @@ ghost use Rattle.ll_path.specs.Path.{path_of_text};
 
 use std::marker::Model;
 
-/// The index of the first slash, or the length if there is none. Names are short, so it compares byte by byte.
+/// Returns the index of the first slash, or the length if there is none. Compares byte by byte, as names are short.
 fn first_slash(bytes: &[u8]) -> usize
     ensures within { result ≤ length bytes.now }
     ensures none_before { (i : ℕ) → i < result → slice_index_or bytes.now i 0 ≢ 47 }

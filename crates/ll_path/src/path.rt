@@ -63,14 +63,14 @@ fn is_any_long(mut names: Names<'_>) -> bool
     names.any(|name| name.len() > 255)
 }
 
-// Whether a name between the slashes is too long. No name is longer than the whole text.
+// Reports whether a name between the slashes is too long. No name is longer than the whole text.
 fn has_long_name(rest: &str) -> bool
     ensures { result ≡ list_any is_long_name (path_of_text (47 ∷ rest.now)) }
 {
     rest.len() > 255 && is_any_long(Names::after_slash(rest))
 }
 
-/// Counts the slashes.
+/// Returns the number of slashes.
 fn slash_count(bytes: &[u8]) -> usize
     ensures count { result ≡ count_by (λ b. b == 47) bytes.now }
     ensures most { result ≤ length bytes.now }
@@ -84,7 +84,7 @@ fn slash_count(bytes: &[u8]) -> usize
     count
 }
 
-// The number of names in a path, given the text after its first slash.
+// Returns the number of names in a path, given the text after its first slash.
 fn name_count(rest: &str) -> usize
     ensures { result ≡ length (path_of_text (47 ∷ rest.now)) }
 {
@@ -95,7 +95,7 @@ fn name_count(rest: &str) -> usize
     }
 }
 
-// Why a text spells no path.
+// Returns the first reason why the text is no path, or None if it is one.
 fn refusal(text: &str) -> Option<Errno>
     ensures { result ≡ slice_get (path_refusals text.now) 0 }
 {
@@ -114,7 +114,7 @@ fn refusal(text: &str) -> Option<Errno>
     None
 }
 
-// The number of bytes in the names that both lists begin with, counting a slash after each.
+// Returns the number of bytes in the names that both lists begin with, counting a slash after each.
 fn shared_len(names: Names<'_>, mut others: Names<'_>) -> usize
     requires { sum_by (λ name. length name + 1) names < 2 ^ 64 }
     ensures { result ≡ sum_by (λ name. length name + 1) (common names.entry others.entry) }

@@ -90,7 +90,8 @@ impl Display for Point {
     }
 }
 
-/// The text of a picture, or of a part of one, as it grows. An element's class names its style.
+/// The text of a picture, or of a part of one, as it grows. An element's class names its style. Functions that write
+/// fail only if memory runs out.
 #[derive(Drop)]
 pub struct Canvas {
     text: String,

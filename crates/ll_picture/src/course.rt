@@ -48,8 +48,8 @@ pub struct Ahead<'a> {
     pub path: PathOf<'a>,
 }
 
-/// The way along a path: its names (the walk doesn't descend by the last one), the index of the next name, and, past
-/// the fork, the directory that the walk is in.
+/// The way along a path: its names (the walk doesn't descend by the last one) and the index of the next name. Past the
+/// fork also the directory that the walk is in.
 #[derive(Drop)]
 struct Way {
     names: Vec<String>,
@@ -57,7 +57,8 @@ struct Way {
     stand: Option<Stand>,
 }
 
-/// The names on the ways of a call's paths, and how far its walk has come.
+/// The names on the ways of a call's paths, and how far its walk has come. Functions that copy names fail only if
+/// memory runs out.
 #[derive(Drop)]
 pub struct Course {
     /// The call as text.

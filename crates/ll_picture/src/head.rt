@@ -43,7 +43,7 @@ fn write_column(
     Ok(())
 }
 
-/// Writes each line and its outcome above its column.
+/// Writes each line and its outcome above its column. Errors: memory ran out.
 pub fn write_head(canvas: &mut Canvas, sheet: &Sheet, scene: &Scene) -> Result<(), AllocError>
     ensures front { OnOk result (IsFrontOf (string_bytes canvas.old.text) (string_bytes canvas.new.text)) }
     ensures marks { OnOk result (HasMarks (length scene.now.columns.items) (string_bytes canvas.new.text)) }

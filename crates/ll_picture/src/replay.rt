@@ -420,7 +420,8 @@ impl Replay {
         Ok(mem::replace(&mut self.told, String::new(self.alloc)))
     }
 
-    /// Returns the scene of these columns. `first` is the number of the first one's line, from 0.
+    /// Returns the scene of these columns. `first` is the number of the first one's line, from 0. Errors: memory ran
+    /// out.
     pub fn into_scene(self, first: usize, columns: Vec<Column>) -> Result<Scene, AllocError>
         ensures { IfOk result (λ scene. scene.columns ≡ columns) }
     {

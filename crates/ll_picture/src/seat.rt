@@ -6,7 +6,8 @@ use ll_journal::Station;
 use ll_steps::Report;
 use std::alloc::{AllocError, Global};
 
-/// What has happened to a client, and its walk, if one is under way.
+/// What has happened to a client, and its walk, if one is under way. Functions that record an event fail only if memory
+/// runs out.
 #[derive(Drop)]
 pub struct Seat {
     pub moments: Vec<Moment>,

@@ -20,7 +20,7 @@ fn lightness_of(row: usize) -> (usize, usize) {
     }
 }
 
-/// Writes the colours of the rows' clients, on white and in the dark.
+/// Writes the colours of the rows' clients, on white and in the dark. Errors: memory ran out.
 pub fn write_tints(canvas: &mut Canvas, rows: usize) -> Result<(), AllocError> {
     canvas.add("<style>\n")?;
     for row in 0..rows {

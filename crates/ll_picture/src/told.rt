@@ -7,7 +7,7 @@ use ll_steps::{Report, World};
 use ll_wire::{is_entered, reply_text};
 use std::alloc::{AllocError, Global};
 
-/// Returns a refusal's words.
+/// Returns a refusal's words. Errors: memory ran out.
 pub fn refusal_words(alloc: Global, errno: Errno) -> Result<String, AllocError> {
     let number = errno.number();
     let text = errno.text();
@@ -43,7 +43,7 @@ fn replied(alloc: Global, words: Result<String, AllocError>) -> Result<String, A
     told
 }
 
-/// Returns the words of an outcome's line.
+/// Returns the words of an outcome's line. Errors: memory ran out.
 pub fn outcome_words(alloc: Global, world: &World, outcome: Report) -> Result<String, AllocError> {
     match outcome {
         Report::NotNow => String::from_str(alloc, "NotNow"),

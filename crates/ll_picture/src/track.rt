@@ -339,8 +339,8 @@ fn draw_line(
     }
 }
 
-/// Draws a client's number and what happens to it; into `above`, which covers all rows, the obstacles of its steps.
-/// What is under way at the end goes on to the edge.
+/// Draws a client's number and what happens to it, and into `above`, which covers all rows, the obstacles of its steps.
+/// What is under way at the end goes on to the edge. Errors: memory ran out.
 pub fn draw_row(
     alloc: Global,
     canvas: &mut Canvas,

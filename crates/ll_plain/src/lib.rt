@@ -96,8 +96,8 @@ impl Plain {
         })
     }
 
-    /// Makes the client's call. The reply and the new state are those of one step; or the reply is NoMemory and nothing
-    /// has changed. `fresh` is the number for a spawned client, and no client may have it.
+    /// Makes the client's call. Either the reply and the new state are those of one step; or the reply is NoMemory, and
+    /// nothing has changed. `fresh` is the number for a spawned client. No client may have it.
     pub fn apply(&mut self, client: u64, call: &Call, fresh: u64) -> Reply
         requires caller { has self.old.clients client ≡ not (is_connect call.now) }
         requires fresh { call.now ≡ Call.Spawn → has self.old.clients fresh ≡ false }

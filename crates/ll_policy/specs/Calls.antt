@@ -1,4 +1,4 @@
--- The calls that a policy stands for. own
+-- The calls that a policy means. own
 use Rattle.std.specs.Prelude.{◌≡◌, ℕ, ◌+◌, ◌*◌, ◌/◌, false, List, [], ◌∷◌, ◌++◌, map, length, take, drop, codes}
 use Rattle.std.specs.List.{range_with_len, enumerate_from}
 use Rattle.std.specs.Result.{result_unwrap_or}
@@ -22,7 +22,7 @@ use Rattle.ll_policy.specs.Table.{text_at, tables_at}
 abbrev pub path_to : List ℕ → Target
 path_to text = Good (path_of_text text)
 
--- each item gives a list, and these lists in order, joined, are the whole
+-- each item gives a list, and these lists, joined in order, are the whole
 abbrev pub Joined : {A B : Type 0} → (A → List B → Type 0) → List A → List B → Type 0
 Joined Gives [] whole = whole ≡ []
 Joined {A} {B} Gives (a ∷ others) whole =
@@ -33,7 +33,7 @@ Joined {A} {B} Gives (a ∷ others) whole =
 abbrev pub for_writing : Mode
 for_writing = record { access = ways.Write; truncate = false; creation = Never }
 
--- the bytes go through descriptor 0 in pieces of 4,096, of which the last may be shorter
+-- the bytes are written to descriptor 0 in pieces of 4,096, the last of which may be shorter
 abbrev pub write_of : List ℕ → ℕ → Call
 write_of bytes piece = Write 0 (piece * 4096) (take 4096 (drop (piece * 4096) bytes))
 
@@ -44,7 +44,7 @@ abbrev pub fill : List ℕ → List ℕ → List Call
 fill path [] = []
 fill path (b ∷ bytes) = Open for_writing (path_to path) ∷ writes (b ∷ bytes) ++ Close 0 ∷ []
 
--- the node is made, and its bytes are put in if it has some
+-- the node is created, and its bytes, if any, are written
 abbrev pub node_calls : Kind → List ℕ → List ℕ → List Call
 node_calls kind path bytes = Make kind (path_to path) ∷ fill path bytes
 
@@ -59,18 +59,19 @@ IsNode t calls = (kind : Kind) × (kind_text kind ≡ text_at (codes "kind") t)
 
 -- ---- a profile
 
--- the call of a rule's table, for the ruleset of this number
+-- the call of a rule's table, for the ruleset with this number
 abbrev pub IsRule : ℕ → Members → List Call → Type 0
 IsRule number t calls = (rights : Access) × (access_text rights.0 ≡ text_at (codes "rights") t)
     × (calls ≡ Allow number (path_to (text_at (codes "path") t)) rights ∷ [])
 
--- the calls of a layer's table, for the ruleset of this number: it is made, gets its rules in order, and is enforced
+-- the calls of a layer's table, for the ruleset with this number: it is created, gets its rules in order, and is
+-- enforced
 abbrev pub IsLayer : ℕ × Members → List Call → Type 0
 IsLayer (number, t) calls = (handled : Access) × (access_text handled.0 ≡ text_at (codes "handled") t)
     × (rules : List Call) × Joined (IsRule number) (tables_at (codes "rule") t) rules
     × (calls ≡ Ruleset handled ∷ rules ++ Confine number ∷ [])
 
--- a profile's name and calls, from its name and table. Its client has no ruleset before, so the first is number 0
+-- A profile's name and calls, from its name and table. Its client has no ruleset before, so the first has number 0
 pub record IsProfile (named : List ℕ × Members) (profile : List ℕ × List Call) : Type 0 where
   pub name : profile.0 ≡ named.0
   pub calls : Joined IsLayer (enumerate_from 0 (tables_at (codes "layer") named.1)) profile.1

@@ -1,4 +1,4 @@
--- What is wrong with a policy's document: all that is, in the order in which the first of it is told. own
+-- The faults of a policy's document, in order. The first is reported. own
 use Rattle.std.specs.Prelude.{ℕ, ℤ, Bool, false, not, ◌==◌, List, [], ◌∷◌, ◌++◌, Option, Some, None, pos, negsuc, codes}
 use Rattle.std.specs.Prelude.{flat_map, if◌then◌else◌}
 use Rattle.toml.specs.Data.{Data, Members, get_member, as_str, as_integer, as_array, as_table}
@@ -10,13 +10,13 @@ use Rattle.ll_policy.specs.Table.{has_other_key, are_tables, hold_tables, tables
 use Rattle.ll_policy.specs.Table.{integer_at}
 use Rattle.ll_policy.specs.Value.{is_version, is_level, is_path, is_kind, is_rights, is_data, is_name}
 
--- the fault, where the test says so
+-- the fault, if the test holds
 abbrev pub fault_if : Bool → PolicyFault → List PolicyFault
 fault_if b fault = if b then fault ∷ [] else []
 
 -- ---- a key
 
--- a value that is of another type, or fails a test
+-- the faults of a value: another type, or a failed test
 abbrev pub typed : {A : Type 0} → (A → Bool) → PolicyFault → Option A → List PolicyFault
 typed passes bad None = WrongType ∷ []
 typed passes bad (Some a) = fault_if (not (passes a)) bad
@@ -68,7 +68,7 @@ profile_faults profile =
 
 -- ---- the document
 
--- the second version of the format has one key more
+-- version 2 of the format has one more key
 abbrev pub is_two : Option ℤ → Bool
 is_two None = false
 is_two (Some (pos n)) = n == 2
@@ -95,7 +95,7 @@ policy_faults t =
     ++ flat_map node_faults (tables_at (codes "node") t)
     ++ flat_map profile_faults (named_tables_at (codes "profile") t)
 
--- of what is read as TOML, or isn't TOML
+-- the faults of a document read as TOML, or of one that isn't TOML
 abbrev pub document_faults : Option Members → List PolicyFault
 document_faults None = NotToml ∷ []
 document_faults (Some t) = policy_faults t

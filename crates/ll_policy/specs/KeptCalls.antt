@@ -1,4 +1,4 @@
--- The calls of what a policy keeps of its document. (Support of the crate's own functions)
+-- The calls of what a policy stores of its document. (Support of the crate's own functions)
 use Rattle.std.specs.Prelude.{◌≡◌, ◌≤◌, pos, codes, ℕ, ◌+◌, Option, Some, None, String, List, [], ◌∷◌, ◌++◌, map}
 use Rattle.std.specs.Prelude.{flat_map, string_bytes}
 use Rattle.std.specs.Borrow.{Bor}
@@ -18,7 +18,7 @@ use Rattle.ll_policy.specs.Plan.{level_of}
 use Rattle.ll_policy.specs.declared.policy.Top.{Top}
 use Rattle.ll_policy.specs.Calls.{path_to, node_calls}
 
--- the tables in a table that may not be there
+-- the tables in a table, if there is one
 abbrev pub named_in : Option (Bor (BTreeMap (String Global) Value)) → List (List ℕ × Members)
 named_in None = []
 named_in (Some t) = named_tables (table_view t.now)
@@ -32,7 +32,7 @@ call_of_rule number rule = Allow number (path_to rule.path) rule.rights
 abbrev pub calls_of_layer : ℕ → Layer → List Call
 calls_of_layer number layer = Ruleset layer.handled ∷ map (call_of_rule number) layer.rules.items ++ Confine number ∷ []
 
--- the layers' rulesets are numbered from this on
+-- the layers' rulesets are numbered starting with this
 abbrev pub calls_of_layers : ℕ → List Layer → List Call
 calls_of_layers number [] = []
 calls_of_layers number (layer ∷ layers) = calls_of_layer number layer ++ calls_of_layers (number + 1) layers
@@ -44,7 +44,7 @@ opening_of nodes = flat_map calls_of_node nodes
 abbrev pub named_calls : Profile → List ℕ × List Call
 named_calls profile = (string_bytes profile.name, calls_of_layers 0 profile.layers.items)
 
--- what stands in the document's table itself
+-- the keys of the document's top table
 pub record IsTop (t : Members) (top : Top) : Type 0 where
   pub abi : pos top.abi ≡ level_of t
   pub first : 1 ≤ top.abi

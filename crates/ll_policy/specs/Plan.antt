@@ -1,4 +1,4 @@
--- What a policy comes to. own
+-- What a policy means. own
 use Rattle.std.specs.Prelude.{◌≡◌, ℕ, ℤ, Bool, pos, List, [], ◌∷◌, Option, Some, None, codes, unwrap_or, if◌then◌else◌}
 use Rattle.toml.specs.Data.{Members}
 use Rattle.ll_seq.specs.declared.call.Call.{Call}
@@ -18,7 +18,7 @@ Each R [] [] = Unit {0}
 Each R (x ∷ xs) (y ∷ ys) = R x y × Each R xs ys
 Each R _ _ = ⊥
 
--- the level that a document of version 2 tells; version 1 means level 3
+-- the level in a document of version 2; version 1 means level 3
 abbrev pub level_by : Bool → Members → ℤ
 level_by two t = if two then unwrap_or (integer_at (codes "abi") t) (pos 3) else pos 3
 
@@ -31,7 +31,7 @@ pub record IsPlan (t : Members) (plan : Plan) : Type 0 where
   pub opening : Joined IsNode (tables_at (codes "node") t) plan.opening
   pub profiles : Each IsProfile (named_tables_at (codes "profile") t) plan.profiles
 
--- the same of what is read as TOML
+-- the plan of a document that was read as TOML
 abbrev pub IsPlanOf : Option Members → Plan → Type 0
 IsPlanOf None plan = ⊥
 IsPlanOf (Some t) plan = IsPlan t plan

@@ -1,4 +1,4 @@
--- A table of a document: its keys and what stands at them. TOML 1.1, "Table" and "Array of Tables"
+-- A table of a document: its keys and their values. TOML 1.1, "Table" and "Array of Tables"
 use Rattle.std.specs.Prelude.{bytes_eq, ℕ, ℤ, Bool, true, false, not, ◌&&◌, ◌||◌, List, [], ◌++◌, Option, is_some}
 use Rattle.std.specs.Prelude.{unwrap_or, option_map, option_and_then, option_to_list}
 use Rattle.std.specs.Option.{option_map_or}
@@ -26,7 +26,7 @@ abbrev pub hold_tables : Members → Bool
 hold_tables no_members = true
 hold_tables (member key d ms) = is_some (as_table d) && hold_tables ms
 
--- the tables in a table with their keys, in its order: a table that is read has its keys rise by their bytes
+-- the tables in a table with their keys, in its order: after reading, the keys increase by their bytes
 abbrev pub named_tables : Members → List (List ℕ × Members)
 named_tables no_members = []
 named_tables (member key d ms) = option_to_list (option_map (λ t. (key, t)) (as_table d)) ++ named_tables ms
@@ -39,10 +39,10 @@ text_at key t = unwrap_or (option_and_then as_str (get_member key t)) []
 abbrev pub integer_at : List ℕ → Members → Option ℤ
 integer_at key t = option_and_then as_integer (get_member key t)
 
--- the array of tables at a key; there are none where it isn't there
+-- the array of tables at a key, or none if the key is missing
 abbrev pub tables_at : List ℕ → Members → List Members
 tables_at key t = option_map_or tables_of (option_and_then as_array (get_member key t)) []
 
--- the table of tables at a key, likewise
+-- the table of tables at a key, or none if the key is missing
 abbrev pub named_tables_at : List ℕ → Members → List (List ℕ × Members)
 named_tables_at key t = option_map_or named_tables (option_and_then as_table (get_member key t)) []

@@ -1,4 +1,4 @@
--- Which values a policy takes. own
+-- Which values a policy accepts. own
 use Rattle.std.specs.Prelude.{bytes_eq, ℕ, zero, suc, ◌%◌, ◌^◌, ℤ, pos, negsuc, Bool, false, ◌==◌, ◌&&◌, ◌||◌, nat_le}
 use Rattle.std.specs.Prelude.{List, [], ◌∷◌, length}
 use Rattle.std.specs.List.{list_any, list_all}
@@ -17,7 +17,7 @@ abbrev pub is_level : ℤ → Bool
 is_level (pos n) = nat_le 1 n && nat_le n 3
 is_level (negsuc n) = false
 
--- a text that spells a path: printed characters of ASCII, which no refusal of a path's text meets
+-- a text that spells a path: printable characters of ASCII, and no reason to refuse the path
 abbrev pub is_path : List ℕ → Bool
 is_path text = list_all (λ b. nat_le 0x21 b && nat_le b 0x7e) text && (length (path_refusals text) == 0)
 
@@ -30,11 +30,11 @@ unfoldable pub some_below : ℕ → (ℕ → Bool) → Bool
 some_below zero passes = false
 some_below (suc n) passes = passes n || some_below n passes
 
--- the one text of some set of rights
+-- the text of some set of rights
 abbrev pub is_rights : List ℕ → Bool
 is_rights text = some_below (2 ^ 64) (λ set. bytes_eq text (access_text set))
 
--- a digit of base 16, with lower-case letters
+-- a hexadecimal digit, in lower case
 abbrev pub is_digit : ℕ → Bool
 is_digit b = (nat_le 48 b && nat_le b 57) || (nat_le 97 b && nat_le b 102)
 
@@ -42,7 +42,7 @@ is_digit b = (nat_le 48 b && nat_le b 57) || (nat_le 97 b && nat_le b 102)
 abbrev pub are_bytes : List ℕ → Bool
 are_bytes text = (nat_le (length text) 131072 && (length text % 2 == 0)) && list_all is_digit text
 
--- the bytes of a node of this kind. Only a regular file has some
+-- the bytes of a node of this kind. Only a regular file has any
 abbrev pub is_data : List ℕ → List ℕ → Bool
 is_data kind text = bytes_eq kind (kind_text Reg) && are_bytes text
 

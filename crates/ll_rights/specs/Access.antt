@@ -12,7 +12,7 @@ holds set right = (set / 2 ^ right) % 2 == 1
 abbrev pub is_within : ℕ → ℕ → Bool
 is_within some set = bit_and set some == some
 
--- all fifteen rights; those of a file that is no directory
+-- all fifteen rights, and those that apply to a node that is not a directory
 abbrev pub all_set : ℕ
 all_set = 0x7fff
 
@@ -29,8 +29,8 @@ names_among rights set = map right_text (filter (holds set) rights)
 abbrev pub set_names : ℕ → List (List ℕ)
 set_names set = names_among all_rights set
 
--- own: `none`; the names, joined by commas (44); or with a bit that is no right's `0x` and digits in base 16, in lower
--- case, with no leading zero
+-- own. The text of a set: `none`, or the names of its rights joined by commas (44). If a bit belongs to no right, it is
+-- `0x` and the digits in base 16, in lower case and with no leading zero
 unfoldable pub access_text : ℕ → List ℕ
 access_text set = if set == 0 then codes "none"
     else if nat_lt set (2 ^ 15) then join_with_byte 44 (set_names set)

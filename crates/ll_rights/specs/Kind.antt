@@ -27,7 +27,7 @@ abbrev pub remove_right : Kind → ℕ
 remove_right Dir = right.remove_dir
 remove_right _ = right.remove_file
 
--- the rights that mean something for such a node
+-- the rights that apply to a node of this kind
 abbrev pub relevant : Kind → ℕ
 relevant Dir = all_set
 relevant _ = file_set

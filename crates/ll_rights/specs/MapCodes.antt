@@ -1,4 +1,4 @@
--- Maps of the same entries are equal, and so a map can be a model's value.
+-- Maps with equal entries are equal, so a map can be a model's value.
 use Rattle.std.specs.Prelude.{◌≡◌, T, List}
 use Rattle.std.specs.declared.cmp.Ordering.{Ordering}
 use Rattle.std.specs.FinMap.Entries.{is_sorted}

@@ -39,6 +39,7 @@ impl Abi {
         }
     }
 
+    /// Returns the level's number, 1 to 3.
     pub fn number(self) -> u64
         ensures number { result ≡ self }
         ensures first { 1 ≤ result }

@@ -103,8 +103,8 @@ impl Access {
         Access(self.0 | other.0)
     }
 
-    /// Returns the set's text: `none`; or the names of its rights in the order of their numbers, joined by commas; or,
-    /// if a bit belongs to no right, `0x` and the number in base 16. Errors: memory ran out.
+    /// Returns the set's text: `none`, or the names of its rights in the order of their numbers, joined by commas. If a
+    /// bit belongs to no right, it is `0x` and the number in base 16. Errors: memory ran out.
     pub fn text(self, alloc: Global) -> Result<String, AllocError>
         ensures { IfOk result (λ text. string_bytes text ≡ access_text self.0) }
     {
@@ -131,7 +131,7 @@ impl Access {
         }
     }
 
-    // The names of the rights, joined by commas.
+    // Returns the names of the rights, joined by commas.
     fn names(self, alloc: Global) -> Result<String, AllocError>
         ensures { IfOk result (λ text. string_bytes text ≡ join_with_byte 44 (set_names self.0)) }
     {
@@ -147,7 +147,7 @@ impl Access {
         Ok(text)
     }
 
-    // Names must come in the order of their rights' numbers.
+    // Parses names joined by commas. Returns None unless they come in the order of their rights' numbers.
     fn parse_names(text: &str) -> Option<Access>
         ensures found { IfSome result (λ access. (access.0 < 2 ^ 15)
             × (slice_split (λ b. b == 44) text.now ≡ set_names access.0)) }
@@ -164,7 +164,7 @@ impl Access {
         Some(set)
     }
 
-    // Parses the digits of a number that has a bit of no right.
+    // Parses the digits of a number with a bit that belongs to no right. Returns None for any other number.
     fn parse_number(digits: &str) -> Option<Access>
         ensures found { IfSome result (λ access. (2 ^ 15 ≤ access.0)
             × (digits.now ≡ map digit_char (digits_of 16 access.0))) }

@@ -67,6 +67,7 @@ impl Errno {
         }
     }
 
+    /// Returns the refusal's name, as lines spell it.
     pub fn text(self) -> &'static str
         ensures { result.now ≡ errno_text self }
     {

@@ -20,6 +20,7 @@ pub enum Kind {
 }
 
 impl Kind {
+    /// Returns the kind's name, as lines spell it.
     pub fn text(self) -> &'static str
         ensures { result.now ≡ kind_text self }
     {

@@ -112,6 +112,7 @@ impl Right {
         Right::TRUNCATE,
     ];
 
+    /// Returns the right's number, 0 to 14.
     pub fn number(self) -> u8
         ensures number { result ≡ self }
         ensures known { result < 15 }
@@ -126,6 +127,7 @@ impl Right {
         Access(1 << self.number)
     }
 
+    /// Returns the right's name, as lines spell it.
     pub fn text(self) -> &'static str
         ensures { result.now ≡ right_text self }
     {

@@ -6,8 +6,8 @@ use Rattle.ll_rights.specs.Map.{Map, get}
 use Rattle.ll_rights.specs.Right.{refer}
 use Rattle.ll_rights.specs.Access.{holds}
 
--- A ruleset, or enforced a layer: the rights that it handles, and by inode those of its rule. A domain is a list of
--- layers, the oldest first
+-- A ruleset, or the layer that enforcing it adds. handled: the rights that it handles. rules: the allowed rights by
+-- inode. A domain is a list of layers, the oldest first
 pub record Layer : Type 0 where
   pub handled : ℕ
   pub rules : Map nat_cmp ℕ
@@ -15,10 +15,11 @@ pub record Layer : Type 0 where
 abbrev pub has_rule : Layer → ℕ → ℕ → Bool
 has_rule layer right inode = holds (unwrap_or (get layer.rules inode) 0) right
 
--- what it handles, and refer whether handled or not. linux/landlock.h, LANDLOCK_ACCESS_FS_REFER
+-- the rights that it denies unless a rule allows them: those handled, and always refer. linux/landlock.h,
+-- LANDLOCK_ACCESS_FS_REFER
 abbrev pub restricts : Layer → ℕ → Bool
 restricts layer right = holds layer.handled right || (right == refer)
 
--- the layer grants the right on a path with these inodes from the root to its end
+-- whether the layer grants the right on a path with these inodes, from the root to its end
 abbrev pub grants_on : Layer → List ℕ → ℕ → Bool
 grants_on layer inodes right = not (restricts layer right) || list_any (has_rule layer right) inodes

@@ -1,4 +1,4 @@
--- The code by which a layer can be a model's value.
+-- The code with which a layer can be a model's value.
 use Rattle.std.specs.Prelude.{ℕ, refl}
 use Rattle.std.specs.Ordering.{nat_cmp}
 use Rattle.std.specs.Coded.{Coded, code_by, coded×, coded_ℕ}

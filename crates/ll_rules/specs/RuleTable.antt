@@ -12,7 +12,7 @@ rows_of entries = map (λ (rule : ℕ × Access). (rule.0, rule.1.0)) entries
 abbrev pub rules_of : BTreeMap ℕ Access → Map nat_cmp ℕ
 rules_of table = from_sorted (rows_of table.entries)
 
--- the inodes strictly rise
+-- the inodes strictly increase
 abbrev pub IsTable : BTreeMap ℕ Access → Type 0
 IsTable table = IsTrue (is_sorted nat_cmp (rows_of table.entries))
 

@@ -64,6 +64,7 @@ impl Domain {
         Ok(())
     }
 
+    /// Returns a copy of the domain. Errors: memory ran out.
     pub fn copy(&self) -> Result<Domain, AllocError>
         ensures { IfOk result (λ copy. copy ≡ self.now) }
     {

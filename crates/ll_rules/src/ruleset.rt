@@ -101,6 +101,7 @@ impl Ruleset {
         &self.layer
     }
 
+    /// Returns a copy of the ruleset. Errors: memory ran out.
     pub fn copy(&self) -> Result<Ruleset, AllocError>
         ensures { IfOk result (λ copy. copy ≡ self.now) }
     {

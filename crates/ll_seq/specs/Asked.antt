@@ -1,4 +1,4 @@
--- What a call asks of each layer. `at` and `new` are a call's first path and its second
+-- The rights that a call needs of each layer. `at` and `new` are a call's first path and its second
 use Rattle.std.specs.Prelude.{ℕ, Bool, not, List, [], ◌∷◌, ◌++◌, Option, is_some, ◌==◌, ◌&&◌, option_map}
 use Rattle.std.specs.Prelude.{option_and_then, option_to_list}
 use Rattle.ll_rights.specs.Kind.{make_right, remove_right, relevant}
@@ -25,7 +25,7 @@ use Rattle.ll_seq.specs.Tree.{ancestors, named, directory_of, kind_at}
 abbrev pub ask : Path → ℕ → Place → List (Ask Path)
 ask path right place = record { path = path; right = right; place = place } ∷ []
 
--- a missing file is made, as its directory is asked, and isn't truncated
+-- the rights that an opening needs. A missing file is created (a right on its directory) and isn't truncated
 abbrev pub opening_asked : Mode → Path → Bool → List (Ask Path)
 opening_asked mode path exists =
     when (not exists) (ask (parent path) right.make_reg At)
@@ -34,21 +34,21 @@ opening_asked mode path exists =
     ++ when (mode.truncate && exists) (ask path right.truncate At)
 
 module _ (s : State) where
-  -- landlock.rst, "Landlock rules"
+  -- a layer grants a right on a path by the rules of the inodes on it. landlock.rst, "Landlock rules"
   abbrev pub grants : Layer → Path → ℕ → Bool
   grants layer path right = grants_on layer (ancestors s path) right
 
   abbrev pub parents_differ : Path → Path → Bool
   parents_differ old new = not (directory_of s old == directory_of s new)
 
-  -- the node at the path loses this name; one of its kind gets a name in the other path's directory
+  -- leaves: the node at the path loses this name. enters: a node of its kind gets a name in the other path's directory
   abbrev pub leaves : Path → Place → List (Ask Path)
   leaves path place = ask (parent path) (remove_right (kind_at s path)) place
 
   abbrev pub enters : Path → Path → Place → List (Ask Path)
   enters path other place = ask (parent other) (make_right (kind_at s path)) place
 
-  -- between directories. linux/landlock.h, LANDLOCK_ACCESS_FS_REFER
+  -- refer is needed on both directories if they differ. linux/landlock.h, LANDLOCK_ACCESS_FS_REFER
   abbrev pub refers : Path → Path → List (Ask Path)
   refers old new = when (parents_differ old new) (ask (parent old) right.refer Old ++ ask (parent new) right.refer New)
 
@@ -57,7 +57,7 @@ module _ (s : State) where
       (record { from = from; into = parent into; relevant = relevant (kind_at s from); place = place } ∷ [])
 
   module _ (at new : Path) where
-    -- the rights that a call asks and the nodes that it moves. linux/landlock.h, "Filesystem flags"
+    -- the rights that a call needs, and the nodes that it moves. linux/landlock.h, "Filesystem flags"
     abbrev pub demanded : Call → List (Ask Path) × List (Move Path)
     demanded (Make kind target) = (ask (parent at) (make_right kind) At, [])
     demanded (Open mode target) = (opening_asked mode at (is_some (named s at)), [])
@@ -87,7 +87,8 @@ module _ (s : State) where
     demanded Spawn = ([], [])
     demanded Connect = ([], [])
 
-  -- Layers decide as they are now, but ftruncate as they were at the opening. landlock.rst, "Truncating files"
+  -- The layers decide at the time of the call, except for ftruncate: there they decided at the opening. landlock.rst,
+  -- "Truncating files"
   abbrev pub call_denials : ClientRecord → Call → List Denial
   call_denials c (Ftruncate fd size) =
       option_to_list (option_map
@@ -96,7 +97,7 @@ module _ (s : State) where
   call_denials c call =
       let demand = demanded (first_path call) (second_path call) call in all_denials grants c.domain demand.0 demand.1
 
-  -- what an opening keeps: the layer that would deny truncate
+  -- the layer that would deny truncate, which an opening keeps
   abbrev pub kept_at : List Layer → Path → Option ℕ
   kept_at layers path =
       option_map (λ (d : Denial). d.layer) (verdict grants layers (ask path right.truncate At) [])

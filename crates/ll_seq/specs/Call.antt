@@ -28,12 +28,12 @@ abbrev pub is_exclusive : Creation → Bool
 is_exclusive Exclusive = true
 is_exclusive _ = false
 
--- a word that is no path is refused before anything is asked of it
+-- the path of an argument. For a word that is no path, which is refused before this matters, the root
 abbrev pub path_of : Target → Path
 path_of (Good path) = path
 path_of (Bad word) = []
 
--- the words that stand for paths
+-- a call's path arguments
 abbrev pub targets : Call → List Target
 targets (Make kind target) = target ∷ []
 targets (Open mode target) = target ∷ []
@@ -66,7 +66,7 @@ second_of [] = []
 second_of (target ∷ []) = path_of target
 second_of (old ∷ (new ∷ more)) = path_of new
 
--- of two paths the old one and the new one; of one path it is both, and of none the root
+-- The old path and the new one, if a call has two. Both are the only path, if it has one, and the root, if it has none
 abbrev pub first_path : Call → Path
 first_path call = first_of (targets call)
 
@@ -107,6 +107,6 @@ descriptor_of call = (concerns call).0
 abbrev pub moving : Call → List Path
 moving call = (concerns call).1
 
--- Of the calls that may move directories only one is under way at a time: it holds the move gate from its beginning
+-- Only one of the calls that may move directories is under way at a time: it holds the move gate from its beginning
 abbrev pub takes_gate : Call → Bool
 takes_gate call = has_any (moving call)

@@ -1,4 +1,5 @@
--- What refuses a call and what it asks and does, part by part. Cited by contracts between crates alone. own
+-- The parts of a call: what refuses it, the rights that it needs, and its effect. Cited by contracts between crates
+-- alone. own
 use Rattle.std.specs.Prelude.{ℕ, Bool, false, List, Option, is_none, if◌then◌else◌}
 use Rattle.std.specs.Option.{option_map_or}
 use Rattle.ll_rights.specs.declared.kind.Kind.{Kind}

@@ -1,4 +1,4 @@
--- What a call comes to, by what is found. Cited by contracts between crates alone. own
+-- What a call results in, given what is found. Cited by contracts between crates alone. own
 use Rattle.std.specs.Prelude.{◌≡◌, ℕ, true, []}
 use Rattle.ll_seq.specs.declared.call.Call.{Call}
 use Rattle.ll_seq.specs.declared.reply.Reply.{Reply}
@@ -8,11 +8,11 @@ use Rattle.ll_seq.specs.declared.changes.Effect.{Effect}
 use Rattle.ll_seq.specs.Effect.{Fits, after, told}
 use Rattle.ll_seq.specs.Lean.{is_lean, spares_memory}
 
--- the call is answered so, and nothing changes
+-- the call gets this reply, and nothing changes
 abbrev pub IsRefused : State → ℕ → Call → Reply → Type 0
 IsRefused s n call reply = (fresh : ℕ) → ◌≡◌ {A = Reply × State} (reply, s) (step s n call fresh)
 
--- nothing refuses the call, and it does this
+-- nothing refuses the call, and this is its effect
 pub record IsDone (s : State) (n : ℕ) (call : Call) (effect : Effect) : Type 0 where
   pub free : refusals s (client_of s n) call ≡ []
   pub done : (fresh : ℕ) →

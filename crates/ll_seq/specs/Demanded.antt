@@ -1,4 +1,4 @@
--- What each call asks, by what it is asked on. Cited by contracts between crates alone. own
+-- The rights that each call needs, by the node that each is needed on. Cited by contracts between crates alone. own
 use Rattle.std.specs.Prelude.{◌≡◌, ℕ, Bool, not, ◌&&◌, List, [], ◌∷◌, ◌++◌, map, Option, Some, None}
 use Rattle.ll_rights.specs.declared.kind.Kind.{Kind}
 use Rattle.ll_rights.specs.Kind.{make_right, remove_right, relevant}
@@ -17,7 +17,7 @@ use Rattle.ll_seq.specs.declared.call.Mode.{Mode}
 use Rattle.ll_seq.specs.State.{State}
 use Rattle.ll_seq.specs.Tree.{ancestors}
 
--- the first path and the second one, and the directories of both
+-- the first path, the second path, and their directories
 abbrev pub path_on : Path → Path → On → Path
 path_on first second Itself = first
 path_on first second Other = second
@@ -36,11 +36,11 @@ move_at first second m = record {
   place = m.place;
 }
 
--- the chains of inodes of the call's paths
+-- the chain of inodes for each `On` of the call's paths
 abbrev pub chains : State → Call → On → List ℕ
 chains s call on = ancestors s (path_on (first_path call) (second_path call) on)
 
--- the call asks and moves on its paths what these lists say, which are those of the sets
+-- the sets have the rights and moves of some lists, and these lists are the call's, on its paths
 pub record AreDemands (s : State) (call : Call) (d : Demands) : Type 0 where
   pub asks : List (Ask On)
   pub moves : List (Move On)
@@ -49,7 +49,7 @@ pub record AreDemands (s : State) (call : Call) (d : Demands) : Type 0 where
   pub all_asked : asked s call ≡ map (ask_at (first_path call) (second_path call)) asks
   pub all_moved : moved s call ≡ map (move_at (first_path call) (second_path call)) moves
 
--- ---- The lists of the calls that ask for more than one right
+-- ---- The lists of the calls that need more than one right
 
 abbrev pub opening_on : Mode → Bool → List (Ask On)
 opening_on mode exists =
@@ -58,7 +58,7 @@ opening_on mode exists =
     ++ when (writes mode.access) (ask_on Itself right.write_file ∷ [])
     ++ when (mode.truncate && exists) (ask_on Itself right.truncate ∷ [])
 
--- the directories differ
+-- refer on both directories, if they differ
 abbrev pub refer_on : Bool → List (Ask On)
 refer_on differ = when differ (ask_on Left right.refer ∷ ask_on Entered right.refer ∷ [])
 

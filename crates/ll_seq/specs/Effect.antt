@@ -1,4 +1,4 @@
--- What the data of an effect mean, by the words of the definitions, and what holds where a call comes to them. Cited by
+-- What an effect's data mean in terms of the definitions, and what holds when a call has that effect. Cited by
 -- contracts between crates alone. own
 use Rattle.std.specs.Prelude.{◌≡◌, ◌≢◌, ◌<◌, ⊤, ℕ, not, ◌==◌, ◌&&◌, false, [], ◌++◌, length, Option, Some, None}
 use Rattle.std.specs.Prelude.{slice_set, if◌then◌else◌}
@@ -34,23 +34,23 @@ dentry_at at = dentry at.directory at.name.now
 abbrev pub descriptor_of : Opening → ℕ → Descriptor
 descriptor_of o inode = record { inode = inode; reads = o.reads; writes = o.writes; kept = o.kept }
 
--- the caller with the descriptor, of this inode
+-- the caller after it got the descriptor, which refers to this inode
 abbrev pub with_descriptor : ClientRecord → Opening → ℕ → ClientRecord
 with_descriptor c o inode = record c { descriptors = insert c.descriptors o.number (descriptor_of o inode) }
 
--- the file is made, or it is this inode
+-- the state after an opening: of a new file, or of this inode
 abbrev pub with_opening : State → ℕ → ClientRecord → Opening → Option ℕ → State
 with_opening s n c o None = with_client (with_node s Reg (dentry_at o.at)) n (with_descriptor c o s.next)
 with_opening s n c o (Some inode) =
     with_client (if o.is_emptied then with_bytes s inode [] else s) n (with_descriptor c o inode)
 
--- the caller, whose ruleset has one rule more
+-- the caller after its ruleset got one more rule
 abbrev pub with_rule_of : ClientRecord → Rule → ClientRecord
 with_rule_of c rule = record c {
   rulesets = slice_set c.rulesets rule.number (with_rule (ruleset_at c rule.number) rule.inode rule.rights.0);
 }
 
--- the state after the change, which the client of this number and record makes
+-- the state after the change, which the client with this number and record makes
 abbrev pub after : State → ℕ → ClientRecord → Change → State
 after s n c Nothing = s
 after s n c (Make at kind) = with_node s kind (dentry_at at)
@@ -63,16 +63,16 @@ after s n c (Resize inode size) = with_size s inode size
 after s n c (Open opening) = with_opening s n c opening opening.there
 after s n c (Allow rule) = with_client s n (with_rule_of c rule)
 
--- the reply, told of the state before the change
+-- the reply, read from the state before the change
 abbrev pub told : State → Answer → Reply
 told s Done = reply.Done
 told s (Opened number) = reply.Opened number
 told s (Status inode kind) = reply.Found (status_of s inode kind)
 told s (Names inode) = reply.Listed (names_in s inode)
 
--- ---- What one who makes the change may rely on
+-- ---- What whoever makes the change may rely on
 
--- the directory of a place is one, as the root is
+-- the inode is a directory, provided the root is
 abbrev pub IsDirectory : State → ℕ → Type 0
 IsDirectory s inode = kind_of s root ≡ Some Dir → kind_of s inode ≡ Some Dir
 
@@ -83,23 +83,23 @@ pub record IsPlace (s : State) (path : Path) (at : At) : Type 0 where
   pub dentry : dentry_at at ≡ dentry_of s path
   pub child : child s at.directory at.name.now ≡ named s path
 
--- the directory lacks the name
+-- the directory doesn't have the name
 pub record Lacks (s : State) (at : At) : Type 0 where
   pub name : IsName at.name.now
   pub directory : IsDirectory s at.directory
   pub child : child s at.directory at.name.now ≡ None
 
--- the directory has the name, and it stands for the inode
+-- the directory has the name, with this inode
 pub record Holds (s : State) (at : At) (inode : ℕ) : Type 0 where
   pub name : IsName at.name.now
   pub directory : IsDirectory s at.directory
   pub child : child s at.directory at.name.now ≡ Some inode
 
--- no directory with names in it
+-- it is not a directory with names in it
 abbrev pub IsEmpty : State → ℕ → Type 0
 IsEmpty s inode = (is_dir (kind_or_file s inode) && has_names s inode) ≡ false
 
--- a new node has room
+-- the name is free, and there is room for a new node
 pub record HasRoom (s : State) (at : At) : Type 0 where
   pub lacks : Lacks s at
   pub space : no_space s at.directory ≡ []
@@ -125,7 +125,7 @@ pub record FitsReplace (s : State) (from into : At) (inode replaced : ℕ) : Typ
   pub differ : inode ≢ replaced
   pub empty : IsEmpty s replaced
 
--- a rename, which may replace a node, is one of these unless both names stand for one node
+-- A rename moves, or replaces a node. It does neither if both names have the same inode
 abbrev pub FitsRename : State → At → At → ℕ → Option ℕ → Type 0
 FitsRename s from into inode None = FitsMove s from into inode
 FitsRename s from into inode (Some replaced) = inode ≢ replaced → FitsReplace s from into inode replaced
@@ -140,7 +140,7 @@ pub record FitsResize (s : State) (inode size : ℕ) : Type 0 where
   pub file : is_dir (kind_or_file s inode) ≡ false
   pub short : is_too_long size ≡ false
 
--- the file can be made, or is there
+-- the file can be created, or exists
 abbrev pub CanOpen : State → Opening → Option ℕ → Type 0
 CanOpen s o None = HasRoom s o.at
 CanOpen s o (Some inode) = HasName s inode
@@ -157,7 +157,7 @@ pub record FitsRule (s : State) (c : ClientRecord) (rule : Rule) : Type 0 where
   pub free : rule_refusals (ruleset_at c rule.number) rule.kind rule.rights.0
       ++ rule_limit (ruleset_at c rule.number) rule.inode ≡ []
 
--- names are names and stand where they are said to, and there is room for what comes
+-- the change can be made: its names are valid and in the directories given, and there is room for what it adds
 abbrev pub Fits : State → ClientRecord → Change → Type 0
 Fits s c Nothing = ⊤
 Fits s c (Make at kind) = HasRoom s at

@@ -1,4 +1,4 @@
--- What a call that isn't refused answers and does. own, but for the manuals that are named
+-- The reply and the effect of a call that isn't refused. own, except for the manuals that are named
 use Rattle.std.specs.Prelude.{ℕ, ◌+◌, ◌-◌, Bool, not, ◌||◌, Option, Some, None, List, [], ◌∷◌, ◌++◌, length, take, drop}
 use Rattle.std.specs.Prelude.{replicate, is_none, ◌==◌, unwrap_or, slice_set, if◌then◌else◌}
 use Rattle.std.specs.Option.{option_map_or}
@@ -30,29 +30,29 @@ use Rattle.ll_seq.specs.Stages.{lowest_free, ruleset_at}
 abbrev pub with_client : State → ℕ → ClientRecord → State
 with_client s number c = record s { clients = insert s.clients number c }
 
--- unlink(2)
+-- a node lives while it is the root, has a name or is open. unlink(2)
 abbrev pub lives : State → ℕ → Bool
 lives s inode = (inode == root) || not (name_count s inode == 0) || is_open s inode
 
 abbrev pub let_go : State → ℕ → State
 let_go s inode = if lives s inode then s else record s { nodes = remove s.nodes inode }
 
--- link(2)
+-- adds a name of the inode. link(2)
 abbrev pub with_name : State → Dentry → ℕ → State
 with_name s at inode = record s { entries = insert s.entries at inode }
 
--- cut, or filled with zeros. truncate(2), ftruncate(2)
+-- cut, or extended with zeros, to this length. truncate(2), ftruncate(2)
 abbrev pub resized : List ℕ → ℕ → List ℕ
 resized bytes size = take size (bytes ++ replicate (size - length bytes) 0)
 
--- a gap before the bytes is zeros. write(2), lseek(2)
+-- bytes written at the offset. A gap before them is filled with zeros. write(2), lseek(2)
 abbrev pub overwritten : List ℕ → ℕ → List ℕ → List ℕ
 overwritten old offset bytes = resized old offset ++ bytes ++ drop (offset + length bytes) old
 
 abbrev pub inode_at : ClientRecord → ℕ → ℕ
 inode_at c number = option_map_or (λ (d : Descriptor). d.inode) (get c.descriptors number) 0
 
--- landlock.rst, "Inheritance"; fork(2)
+-- what a spawned client inherits. landlock.rst, "Inheritance"; fork(2)
 abbrev pub child_of : Rules → ClientRecord → ClientRecord
 child_of rules c =
     record { domain = c.domain; rulesets = []; descriptors = if rules.copies then c.descriptors else empty }
@@ -61,7 +61,7 @@ module _ (s : State) where
   abbrev pub dentry_of : Path → Dentry
   dentry_of path = dentry (directory_of s path) (last_name path)
 
-  -- mknod(2)
+  -- creates a node with a name. mknod(2)
   abbrev pub with_node : Kind → Dentry → State
   with_node kind at =
       record s {
@@ -76,7 +76,7 @@ module _ (s : State) where
   abbrev pub with_moved : Dentry → Dentry → ℕ → State
   with_moved old new inode = with_name (record s { entries = remove s.entries old }) new inode
 
-  -- what the new name stood for loses it; one node under both names keeps both. rename(2)
+  -- The node that had the new name loses it. If both names have the same inode, both stay. rename(2)
   abbrev pub renamed : Dentry → Dentry → ℕ → Option ℕ → State
   renamed old new inode None = with_moved old new inode
   renamed old new inode (Some replaced) = if inode == replaced then s else let_go (with_moved old new inode) replaced
@@ -89,12 +89,12 @@ module _ (s : State) where
   abbrev pub with_size : ℕ → ℕ → State
   with_size inode size = with_bytes inode (resized (bytes_of s inode) size)
 
-  -- no bytes change nothing. write(2)
+  -- writing no bytes changes nothing. write(2)
   abbrev pub written : ℕ → ℕ → List ℕ → State
   written inode offset bytes =
       if length bytes == 0 then s else with_bytes inode (overwritten (bytes_of s inode) offset bytes)
 
-  -- a directory has one link. own, after stat(2)
+  -- what stat returns. A directory has one link. own, after stat(2)
   abbrev pub status_of : ℕ → Kind → Status
   status_of inode kind = record {
     inode = inode;
@@ -109,7 +109,7 @@ module _ (s : State) where
         { inode = inode; reads = reads mode.access; writes = writes mode.access; kept = kept_at s c.domain path });
   }
 
-  -- open(2), O_TRUNC
+  -- the file after an opening, which may truncate it. open(2), O_TRUNC
   abbrev pub emptied : Mode → ℕ → State
   emptied mode inode = if mode.truncate then with_bytes inode [] else s
 
@@ -120,7 +120,7 @@ module _ (s : State) where
     abbrev pub with_own : ClientRecord → State
     with_own r = with_client s number r
 
-    -- the reply and the next state. number: the caller's. fresh: a spawned client's
+    -- the reply and the next state. number: the caller's. fresh: a spawned client's number
     abbrev pub effect : Call → Reply × State
     effect (Make kind target) = (Done, with_node kind (dentry_of at))
     -- open(2), O_CREAT

@@ -1,4 +1,4 @@
--- What a walk finds for a call's paths, and when it is so. Cited by contracts between crates alone. own
+-- What a walk finds for a call's paths, and when that is right. Cited by contracts between crates alone. own
 use Rattle.std.specs.Prelude.{◌≡◌, ℕ, Bool, false, List, [], ◌∷◌, Option, None, option_map, option_and_then, slice_get}
 use Rattle.std.specs.Prelude.{nat_lt, nat_le}
 use Rattle.std.specs.Option.{option_map_or}
@@ -25,7 +25,7 @@ words_of No = []
 words_of (One target) = target.now ∷ []
 words_of (Two old new) = old.now ∷ new.now ∷ []
 
--- what stands under a name that names the inode
+-- what a name with this inode leads to
 abbrev pub there_in : State → ℕ → There
 there_in s inode = record {
   inode = inode;
@@ -34,24 +34,24 @@ there_in s inode = record {
   has_many_names = has_many_names s inode;
 }
 
--- the path's last name stands here, and this under it
+-- the directory of the path's last name, and what has that name there
 pub record Stands (s : State) (path : Path) (spot : Spot) : Type 0 where
   pub directory : spot.directory ≡ directory_of s path
   pub crowded : spot.is_crowded ≡ is_crowded s (directory_of s path)
   pub there : spot.there ≡ option_map (there_in s) (named s path)
 
--- what is in the way to the path's last name first, and if nothing is, where the name stands
+-- the first obstacle on the way to the path's last name; without one, where that name is
 pub record IsSpot (s : State) (path : Path) (spot : Spot) : Type 0 where
   pub way : spot.way ≡ slice_get (in_the_way s (parent path) root) 0
   pub stands : spot.way ≡ None → Stands s path spot
 
--- what is found for the call is so
+-- what is found for the call is right in the tree
 pub record AreFacts (s : State) (call : Call) (found : Found) : Type 0 where
   pub first : IsSpot s (first_path call) found.first
   pub second : IsSpot s (second_path call) found.second
   pub full : found.is_full ≡ nat_le s.room (len s.nodes)
 
--- ---- By what is counted of each node
+-- ---- Computed from the counts of each node
 
 abbrev pub there_by : ℕ → Fact → There
 there_by inode fact = record {
@@ -67,7 +67,7 @@ there_at facts inode = option_map (there_by inode) (get facts inode)
 abbrev pub crowded_at : Map nat_cmp Fact → ℕ → Bool
 crowded_at facts inode = option_map_or (λ (fact : Fact). nat_le DIRECTORY_ENTRIES fact.names) (get facts inode) false
 
--- where this is in the way, and else the last name stands in this directory and for this node
+-- the spot with this obstacle; without one, with the last name in this directory, for this node
 abbrev pub spot_by : Map nat_cmp Fact → Option Errno → ℕ → Option ℕ → Spot
 spot_by facts way directory node = record {
   way = way;

@@ -24,10 +24,10 @@ abbrev pub after : State → Entry → State
 after s e = (outcome_of s e).1
 
 pub record MayStand (s : State) (e : Entry) : Type 0 where
-  -- the caller is there, but for a connect, which brings it
+  -- the caller exists, except for a connect, which creates it
   pub caller : has s.clients e.client ≡ not (is_connect e.call)
   pub connected : IsTrue (is_connect e.call) → e.reply ≡ Done
-  -- a spawned client's number is one that no client had
+  -- a spawned client's number was never given before
   pub spawned : (number : ℕ) → e.reply ≡ Spawned number → has s.clients number ≡ false
   pub answered : (outcome_of s e).0 ≡ e.reply
 
@@ -39,7 +39,7 @@ abbrev pub state_after : State → List Entry → State
 state_after s [] = s
 state_after s (e ∷ es) = state_after (after s e) es
 
--- what is kept of a history: its entries, and how many it may hold
+-- what a history stores: its entries, and the most entries it may have
 pub record Log : Type 0 where
   pub entries : List Entry
   pub limit : ℕ

@@ -10,7 +10,7 @@ use Rattle.ll_seq.specs.declared.changes.Change.TheVariants.{Resize, Open, Allow
 use Rattle.ll_seq.specs.declared.changes.Effect.{Effect}
 use Rattle.ll_seq.specs.Passed.{has_path}
 
--- nothing comes of the change that wasn't there: no node, name, byte, descriptor or rule
+-- the change adds nothing: no node, name, byte, descriptor or rule
 abbrev pub adds_nothing : Change → Bool
 adds_nothing Nothing = true
 adds_nothing (Make at kind) = false
@@ -23,7 +23,7 @@ adds_nothing (Resize inode size) = false
 adds_nothing (Open opening) = false
 adds_nothing (Allow rule) = false
 
--- the answer has one size
+-- the answer has a fixed size
 abbrev pub is_short : Answer → Bool
 is_short Done = true
 is_short (Opened number) = true
@@ -33,6 +33,6 @@ is_short (Names inode) = false
 abbrev pub is_lean : Effect → Bool
 is_lean effect = is_short effect.answer && adds_nothing effect.change
 
--- the calls of paths that add nothing and have a short answer
+-- the calls with paths that add nothing and have an answer of fixed size
 abbrev pub spares_memory : Call → Bool
 spares_memory call = has_path call && not (takes_memory call)

@@ -1,4 +1,4 @@
--- Which calls and replies may need memory, and when a call may find none. own
+-- Which calls and replies may need memory, and when a call may be answered NoMemory. own
 use Rattle.std.specs.Prelude.{◌≡◌, ℕ, Bool, true, false, []}
 use Rattle.ll_seq.specs.declared.call.Call.{Call}
 use Rattle.ll_seq.specs.declared.call.Call.TheVariants.{Make, Open, Read, Write, Ftruncate, Close, Truncate, ReadDir}
@@ -32,12 +32,12 @@ takes_memory (Confine number) = true
 takes_memory Spawn = true
 takes_memory Connect = true
 
--- The client's call may find no memory: it takes some, and nothing refuses it
+-- The client's call may find no memory: it needs some, and nothing refuses it
 pub record MayStarve (s : State) (client : ℕ) (call : Call) : Type 0 where
   pub takes : takes_memory call ≡ true
   pub passes : refusals s (client_of s client) call ≡ []
 
--- it holds bytes or names, so a copy takes memory
+-- the reply has bytes or names, so that a copy needs memory
 abbrev pub holds_memory : Reply → Bool
 holds_memory (Bytes bytes) = true
 holds_memory (Listed names) = true

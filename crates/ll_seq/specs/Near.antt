@@ -1,4 +1,4 @@
--- Which nodes an effect touches, told by what is found. Cited by contracts between crates alone. own
+-- Which nodes an effect touches, in terms of what is found. Cited by contracts between crates alone. own
 use Rattle.std.specs.Prelude.{◌≡◌, ℕ, Bool, true, false, ◌==◌, List, [], ◌∷◌, Option, Some, None, is_none}
 use Rattle.std.specs.List.{AllByRecursion, list_any}
 use Rattle.std.specs.Option.{option_map_or}
@@ -14,11 +14,11 @@ use Rattle.ll_seq.specs.declared.changes.Effect.{Effect}
 use Rattle.ll_seq.specs.declared.found.Found.{Found}
 use Rattle.ll_seq.specs.declared.found.Spot.{Spot}
 
--- the node under the last name, or 0
+-- the node with the last name, or 0
 abbrev pub inode_at : Spot → ℕ
 inode_at spot = option_map_or (λ there. there.inode) spot.there 0
 
--- the nodes besides the directories of its paths that a call may change or tell of
+-- the nodes, other than its paths' directories, that a call may change or report on
 abbrev pub nodes_of : Call → Found → List ℕ
 nodes_of (call.Make kind target) found = []
 nodes_of (call.Open mode target) found = inode_at found.first ∷ []
@@ -42,7 +42,7 @@ nodes_of (call.Confine number) found = []
 nodes_of call.Spawn found = []
 nodes_of call.Connect found = []
 
--- the call may make a node
+-- the call may create a node
 abbrev pub may_make : Call → Found → Bool
 may_make (call.Make kind target) found = true
 may_make (call.Open mode target) found = is_none found.first.there
@@ -66,19 +66,19 @@ may_make (call.Confine number) found = false
 may_make call.Spawn found = false
 may_make call.Connect found = false
 
--- the nodes that the answer tells of
+-- the nodes that the answer reports on
 abbrev pub told_inodes : Answer → List ℕ
 told_inodes Done = []
 told_inodes (Opened number) = []
 told_inodes (Status inode kind) = inode ∷ []
 told_inodes (Names inode) = inode ∷ []
 
--- an opening changes the file that is there, or else the directory that gets one
+-- the node that an opening changes: the existing file, or else the directory that gets a file
 abbrev pub opened_inode : At → Option ℕ → ℕ
 opened_inode at None = at.directory
 opened_inode at (Some inode) = inode
 
--- the nodes that the change concerns, but for one that it makes
+-- the nodes that the change touches, except one that it creates
 abbrev pub changed_inodes : Change → List ℕ
 changed_inodes Nothing = []
 changed_inodes (Make at kind) = at.directory ∷ []
@@ -91,7 +91,7 @@ changed_inodes (Resize inode size) = inode ∷ []
 changed_inodes (Open opening) = opened_inode opening.at opening.there ∷ []
 changed_inodes (Allow rule) = []
 
--- the change makes a node
+-- the change creates a node
 abbrev pub makes : Change → Bool
 makes Nothing = false
 makes (Make at kind) = true
@@ -104,13 +104,13 @@ makes (Resize inode size) = false
 makes (Open opening) = is_none opening.there
 makes (Allow rule) = false
 
--- these are directories of the paths, or nodes that the call may change or tell of
+-- these are directories of the paths, or nodes that the call may change or report on
 abbrev pub AreNear : Call → Found → List ℕ → Type 0
 AreNear call found inodes =
     AllByRecursion (λ i.
     list_any (λ j. j == i) (found.first.directory ∷ found.second.directory ∷ nodes_of call found) ≡ true) inodes
 
--- the effect touches no other node that is there, and makes one only where the call may
+-- the effect touches no other existing node, and creates one only if the call may
 pub record IsNear (call : Call) (found : Found) (effect : Effect) : Type 0 where
   pub told : AreNear call found (told_inodes effect.answer)
   pub changed : AreNear call found (changed_inodes effect.change)

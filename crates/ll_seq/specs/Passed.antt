@@ -1,4 +1,4 @@
--- A call before policy is asked and after it. Cited by contracts between crates alone. own
+-- A call before and after the layers' decision (policy). Cited by contracts between crates alone. own
 use Rattle.std.specs.Prelude.{◌≡◌, ⊤, Bool, true, false, is_some, List, [], ◌++◌, nat_le}
 use Rattle.ll_rights.specs.declared.errno.Errno.{Errno}
 use Rattle.ll_rights.specs.Map.{len}
@@ -16,7 +16,7 @@ use Rattle.ll_seq.specs.Tree.{named}
 use Rattle.ll_seq.specs.Found.{Stands}
 use Rattle.ll_seq.specs.declared.found.Found.{Found}
 
--- the call names a path. What the others do concerns the caller's record alone, or the files that it has open
+-- the call has a path. All others concern only the caller's record or its open files
 abbrev pub has_path : Call → Bool
 has_path (Make kind target) = true
 has_path (Open mode target) = true
@@ -40,11 +40,11 @@ has_path (Confine number) = false
 has_path Spawn = false
 has_path Connect = false
 
--- what refuses it by what is in its way, and what is there
+-- the refusals for an obstacle on a path, and for what exists there
 abbrev pub found_refusals : State → Call → List Errno
 found_refusals s call = walk_refusals s call ++ existence_refusals s call (first_path call) (second_path call)
 
--- what refuses the call before policy is asked
+-- the refusals that come before policy
 abbrev pub before_policy : State → ClientRecord → Call → List Errno
 before_policy s c call =
     text_refusals call
@@ -53,7 +53,7 @@ before_policy s c call =
     ++ (walk_refusals s call
     ++ existence_refusals s call (first_path call) (second_path call))))
 
--- what refuses it where policy allows it
+-- the refusals that come after policy
 abbrev pub after_policy : State → ClientRecord → Call → List Errno
 after_policy s c call =
     kind_refusals s c call (first_path call) (second_path call)
@@ -62,7 +62,7 @@ after_policy s c call =
 abbrev pub IsThere : State → Path → Type 0
 IsThere s path = is_some (named s path) ≡ true
 
--- what has to be there is there. at: the call's path, of two paths the old one; new: of two the new one
+-- what must exist for the call exists. at: the call's path, or the old one of two; new: the new one of two
 abbrev pub Exist : State → Call → Path → Path → Type 0
 Exist s (Make kind target) at new = ⊤
 Exist s (Open mode target) at new = ⊤
@@ -86,7 +86,7 @@ Exist s (Confine number) at new = ⊤
 Exist s Spawn at new = ⊤
 Exist s Connect at new = ⊤
 
--- nothing refuses the call before policy, so what is found stands
+-- nothing before policy refuses the call, so what is found is right
 pub record Passed (s : State) (c : ClientRecord) (call : Call) (found : Found) : Type 0 where
   pub first : Stands s (first_path call) found.first
   pub second : Stands s (second_path call) found.second
@@ -97,7 +97,7 @@ pub record Passed (s : State) (c : ClientRecord) (call : Call) (found : Found) :
   pub way : walk_refusals s call ≡ []
   pub existence : existence_refusals s call (first_path call) (second_path call) ≡ []
 
--- nothing at all refuses it but policy
+-- nothing but policy refuses the call
 pub record IsFree (s : State) (c : ClientRecord) (call : Call) (found : Found) : Type 0 where
   pub passed : Passed s c call found
   pub kinds : kind_refusals s c call (first_path call) (second_path call) ≡ []

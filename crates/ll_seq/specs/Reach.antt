@@ -9,7 +9,7 @@ use Rattle.ll_seq.specs.State.{State, kind_of}
 use Rattle.ll_seq.specs.Tree.{named}
 use Rattle.ll_seq.specs.Asked.{grants}
 
--- The right means something for the inode, and some path, of any length, names it and has the right granted
+-- the right applies to the inode, and some path, of any length, leads to it and has the right granted
 pub record InReach (s : State) (layer : Layer) (inode right : ℕ) : Type 0 where
   pub path : Path
   pub names : named s path ≡ Some inode

@@ -1,4 +1,4 @@
--- When a call is refused apart from policy. Each stage lists the refusals that hold, and the first of all decides. The
+-- When a call is refused, policy aside. Each stage lists the refusals that hold, and the first of all is reported. The
 -- order is own. `at` and `new` are a call's first path and its second
 use Rattle.std.specs.Prelude.{ℕ, zero, suc, ◌+◌, Bool, true, false, not, ◌||◌, List, [], ◌∷◌, ◌++◌, length, Option}
 use Rattle.std.specs.Prelude.{Some, None, nat_lt, nat_le, is_some, is_none, unwrap_or, option_and_then, slice_get, find}
@@ -32,8 +32,8 @@ use Rattle.ll_seq.specs.Call.{creates, first_path, is_exclusive, path_of, second
 use Rattle.ll_seq.specs.State.{State, child, kind_of, names_in, name_count, new_client, root, start}
 use Rattle.ll_seq.specs.Tree.{named, inode_of, directory_of, kind_or_file, kind_at}
 
--- What refuses a call, stage by stage: the caller's numbers; how the paths lie; (here stands the walk;) whether the
--- last names are there; (here stands policy;) kinds; limits
+-- The stages of refusals: the caller's numbers; how the paths relate; (here comes the walk;) whether the last names
+-- exist; (here comes policy;) kinds; limits
 pub record Stages : Type 0 where
   pub numbers : List Errno
   pub relation : List Errno
@@ -51,7 +51,7 @@ bad_text (Bad word) = word.errno ∷ []
 abbrev pub text_refusals : Call → List Errno
 text_refusals call = flat_map bad_text (targets call)
 
--- no such descriptor, or it doesn't allow this. read(2), write(2), close(2): EBADF; ftruncate(2): EINVAL
+-- the descriptor doesn't exist, or doesn't allow this. read(2), write(2), close(2): EBADF; ftruncate(2): EINVAL
 abbrev pub without : ClientRecord → ℕ → (Descriptor → Bool) → Errno → List Errno
 without c fd allows errno =
     refuse (is_none (get c.descriptors fd)) EBADF
@@ -63,26 +63,26 @@ no_ruleset c number = refuse (is_none (slice_get c.rulesets number)) EBADF
 abbrev pub ruleset_at : ClientRecord → ℕ → Layer
 ruleset_at c number = unwrap_or (slice_get c.rulesets number) (new_ruleset 0)
 
--- neither is the root, and none beneath the other. rename(2), link(2)
+-- neither path is the root, and neither is below the other. rename(2), link(2)
 abbrev pub lying : Path → Path → Errno → List Errno
 lying old new above =
     refuse (is_root old || is_root new) EBUSY ++ refuse (is_beneath old new) EINVAL ++ refuse (is_beneath new old) above
 
--- path_resolution(7): ENOENT, ENOTDIR; openat2(2), RESOLVE_NO_SYMLINKS: ELOOP
+-- what isn't a directory. path_resolution(7): ENOENT, ENOTDIR; openat2(2), RESOLVE_NO_SYMLINKS: ELOOP
 abbrev pub no_directory : Option Kind → List Errno
 no_directory None = ENOENT ∷ []
 no_directory (Some Dir) = []
 no_directory (Some Sym) = ELOOP ∷ []
 no_directory (Some _) = ENOTDIR ∷ []
 
--- open(2): EISDIR, ELOOP (O_NOFOLLOW), ENXIO; truncate(2): EISDIR, EINVAL
+-- what isn't a regular file. open(2): EISDIR, ELOOP (O_NOFOLLOW), ENXIO; truncate(2): EISDIR, EINVAL
 abbrev pub no_file : Errno → Kind → List Errno
 no_file other Reg = []
 no_file other Dir = EISDIR ∷ []
 no_file other Sym = ELOOP ∷ []
 no_file other _ = other ∷ []
 
--- truncate(2), write(2): EFBIG
+-- a file's limit. truncate(2), write(2): EFBIG
 abbrev pub is_too_long : ℕ → Bool
 is_too_long size = nat_lt FILE_BYTES size
 
@@ -90,7 +90,7 @@ unfoldable pub numbers_from : ℕ → ℕ → List ℕ
 numbers_from k zero = []
 numbers_from k (suc n) = k ∷ numbers_from (suc k) n
 
--- open(2): the lowest-numbered descriptor
+-- the lowest-numbered descriptor that is free. open(2)
 abbrev pub lowest_free : Map nat_cmp Descriptor → Option ℕ
 lowest_free descriptors = find (λ fd. not (has descriptors fd)) (numbers_from 0 CLIENT_DESCRIPTORS)
 
@@ -98,31 +98,31 @@ module _ (s : State) where
   abbrev pub kind_of_child : Option ℕ → Option Kind
   kind_of_child = option_and_then (kind_of s)
 
-  -- what is in the way of each name from an inode on
+  -- the obstacle at each name, starting from an inode
   abbrev pub in_the_way : Path → ℕ → List Errno
   in_the_way [] inode = []
   in_the_way (name ∷ path) inode =
       no_directory (kind_of_child (child s inode name)) ++ option_map_or (in_the_way path) (child s inode name) []
 
-  -- the walk goes to the parent
+  -- the obstacles on the way to the parent, where the walk goes
   abbrev pub way_to : Target → List Errno
   way_to target = in_the_way (parent (path_of target)) root
 
   abbrev pub walk_refusals : Call → List Errno
   walk_refusals call = flat_map way_to (targets call)
 
-  -- open(2): ENOENT
+  -- the path doesn't exist. open(2): ENOENT
   abbrev pub missing : Path → List Errno
   missing path = refuse (is_none (named s path)) ENOENT
 
-  -- mknod(2), link(2), renameat2(2), open(2) with O_EXCL: EEXIST
+  -- the path exists. mknod(2), link(2), renameat2(2), open(2) with O_EXCL: EEXIST
   abbrev pub present : Path → List Errno
   present path = refuse (is_some (named s path)) EEXIST
 
   abbrev pub has_names : ℕ → Bool
   has_names directory = nat_lt 0 (length (names_in s directory))
 
-  -- of a name that is replaced by another node. rename(2)
+  -- of a name whose node is replaced by another. rename(2)
   abbrev pub replace_refusals : ℕ → ℕ → List Errno
   replace_refusals inode replaced = when (not (inode == replaced)) (
       refuse (is_dir (kind_or_file s replaced) && not (is_dir (kind_or_file s inode))) EISDIR
@@ -135,11 +135,11 @@ module _ (s : State) where
   abbrev pub no_space : ℕ → List Errno
   no_space directory = refuse (is_crowded directory || nat_le s.room (len s.nodes)) ENOSPC
 
-  -- link(2): EMLINK
+  -- the node has as many names as it may. link(2): EMLINK
   abbrev pub has_many_names : ℕ → Bool
   has_many_names inode = nat_le NODE_NAMES (name_count s inode)
 
-  -- a rename that replaces nothing gives another directory one entry more
+  -- a rename that replaces nothing adds an entry to another directory, which is full
   abbrev pub crowds : Path → Path → List Errno
   crowds old new = refuse
       (is_none (named s new) && not (directory_of s old == directory_of s new) && is_crowded (directory_of s new))
@@ -155,7 +155,7 @@ module _ (s : State) where
     abbrev pub its_kind : Kind
     its_kind = kind_at s at
 
-    -- A stage that isn't named refuses nothing. opendir(3), unlink(2), rmdir(2), link(2), landlock_create_ruleset(2),
+    -- A stage that isn't listed refuses nothing. opendir(3), unlink(2), rmdir(2), link(2), landlock_create_ruleset(2),
     -- landlock_add_rule(2), landlock_restrict_self(2)
     abbrev pub stages : Call → Stages
     stages (Make kind target) = record nothing {
@@ -237,7 +237,7 @@ module _ (s : State) where
     stages Spawn = record nothing { limits = many_clients }
     stages Connect = record nothing { limits = many_clients }
 
--- These stages ignore the tree, the client and the paths that stand here
+-- Some stages ignore the tree, the client or the paths, so any can be given here
 abbrev pub any_tree : State
 any_tree = start (record { abi = 1; copies = false }) 1
 
@@ -247,7 +247,7 @@ number_refusals c call = (stages any_tree c [] [] call).numbers
 abbrev pub relation_refusals : Call → Path → Path → List Errno
 relation_refusals call at new = (stages any_tree new_client at new call).relation
 
--- the refusals of the first three stages, which look neither at the tree nor at layers
+-- the refusals of the first three stages, which depend on neither the tree nor the layers
 abbrev pub early_refusals : ClientRecord → Call → List Errno
 early_refusals c call =
     text_refusals call ++ number_refusals c call ++ relation_refusals call (first_path call) (second_path call)

@@ -17,15 +17,15 @@ use Rattle.ll_seq.specs.declared.rules.Rules.{Rules}
 abbrev pub Name : Type 0
 Name = List ℕ
 
--- by directory, then by the name's bytes
+-- sorted by directory, then by the name's bytes
 abbrev pub dentry_cmp : Dentry → Dentry → Ordering
 dentry_cmp a b = ordering_then (nat_cmp a.directory b.directory) (slice_cmp nat_cmp a.name b.name)
 
 abbrev pub dentry : ℕ → Name → Dentry
 dentry directory name = record { directory = directory; name = name }
 
--- entries: the inode under a name. next: the next inode number. room: how many nodes may live. Nodes, rules and clients
--- are as the code declares them
+-- entries: the inode of each name. next: the next inode number. room: how many nodes may be alive. Nodes, rules and
+-- clients are declared in the code
 pub record State : Type 0 where
   pub entries : Map dentry_cmp ℕ
   pub nodes : Map nat_cmp Node
@@ -43,7 +43,7 @@ empty_node kind = record { kind = kind; bytes = [] }
 abbrev pub new_client : ClientRecord
 new_client = record { domain = []; rulesets = []; descriptors = empty }
 
--- the root alone
+-- a new tree: only the root
 abbrev pub start : Rules → ℕ → State
 start rules room = record {
   entries = empty;
@@ -64,7 +64,7 @@ module _ (s : State) where
   abbrev pub child : ℕ → Name → Option ℕ
   child directory name = get s.entries (dentry directory name)
 
-  -- rising by bytes
+  -- the names in a directory, sorted by bytes
   abbrev pub names_in : ℕ → List Name
   names_in directory =
       map (λ (e : Dentry × ℕ). e.0.name) (filter (λ (e : Dentry × ℕ). e.0.directory == directory) (entries s.entries))

@@ -1,4 +1,4 @@
--- Codes, by which a tree's state can be a model's value.
+-- Codes with which a tree's state can be a model's value.
 use Rattle.std.specs.Prelude.{ℕ, refl}
 use Rattle.std.specs.Ordering.{nat_cmp}
 use Rattle.std.specs.Coded.{Coded, code_by, coded×, coded_ℕ}

@@ -1,4 +1,4 @@
--- One call: the first stage that refuses gives the reply, and a refusal keeps the state. own
+-- One call: the first stage that refuses gives the reply, and then the state stays. own
 use Rattle.std.specs.Prelude.{◌≡◌, ℕ, ◌≤◌, ⊤, ◌⊎◌, List, [], ◌∷◌, ◌++◌, map, unwrap_or}
 use Rattle.ll_rights.specs.declared.errno.Errno.TheVariants.{NoMemory}
 use Rattle.ll_rights.specs.Errno.{errno_number}
@@ -14,7 +14,7 @@ use Rattle.ll_seq.specs.Asked.{call_denials}
 use Rattle.ll_seq.specs.Stages.{text_refusals, number_refusals, relation_refusals, walk_refusals, stages}
 use Rattle.ll_seq.specs.Effects.{effect}
 
--- in the stages' order
+-- all refusals, in the order of the stages
 abbrev pub refusals : State → ClientRecord → Call → List Reply
 refusals s c call =
     let at = first_path call in
@@ -40,7 +40,7 @@ abbrev pub step : State → ℕ → Call → ℕ → Reply × State
 step s number call fresh = first_or s (refusals s (client_of s number) call)
     (effect s number (client_of s number) (first_path call) (second_path call) fresh call)
 
--- EACCES and EXDEV come only as denials; HistoryFull, BadLine and Stale never come from a step
+-- The replies of a step. It refuses with EACCES and EXDEV only as denials, and never with HistoryFull, BadLine or Stale
 abbrev pub IsAnswer : Reply → Type 0
 IsAnswer (Bytes bytes) = IsData bytes
 IsAnswer (Listed names) = AreListed names

@@ -7,7 +7,7 @@ use Rattle.ll_path.specs.Path.{Path, parent}
 use Rattle.ll_seq.specs.State.{State, child, kind_of, root}
 
 module _ (s : State) where
-  -- where the chain of entries from an inode on ends that spells the path
+  -- the inode at the end of the path, following entries from the root
   abbrev pub end_from : Path → ℕ → Option ℕ
   end_from [] inode = Some inode
   end_from (name ∷ path) inode = option_and_then (end_from path) (child s inode name)
@@ -18,20 +18,20 @@ module _ (s : State) where
   abbrev pub inode_of : Path → ℕ
   inode_of path = unwrap_or (named path) 0
 
-  -- the inodes on that chain, as far as there is one
+  -- the inodes on the way along the path, as far as it exists
   abbrev pub chain_from : Path → ℕ → List ℕ
   chain_from [] inode = inode ∷ []
   chain_from (name ∷ path) inode = inode ∷ option_map_or (chain_from path) (child s inode name) []
 
-  -- from the root on. If the last name is missing, they are those of its parent
+  -- starting at the root. If the last name is missing, these are its parent's
   abbrev pub ancestors : Path → List ℕ
   ancestors path = chain_from path root
 
-  -- where the last name stands
+  -- the directory of the path's last name
   abbrev pub directory_of : Path → ℕ
   directory_of path = inode_of (parent path)
 
-  -- no number is without a node where this is asked
+  -- used only for numbers that have a node
   abbrev pub kind_or_file : ℕ → Kind
   kind_or_file inode = unwrap_or (kind_of s inode) Reg
 

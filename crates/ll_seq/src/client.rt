@@ -76,7 +76,8 @@ impl Rulesets {
         Ok(())
     }
 
-    /// Adds a rule to an existing ruleset, on the inode of a node of this kind.
+    /// Adds a rule to an existing ruleset, on the inode of a node of this kind. Errors: those of `Ruleset::allow`;
+    /// nothing has changed.
     pub fn allow(
         &mut self,
         number: u64,
@@ -150,7 +151,8 @@ impl ClientRecord {
         None
     }
 
-    /// Opens a file at the lowest free descriptor. Returns its number.
+    /// Opens a file at the lowest free descriptor. Returns its number. Errors: EMFILE if none is free; NoMemory.
+    /// Nothing has changed then.
     pub fn open(&mut self, descriptor: Descriptor) -> Result<u64, Errno>
         ensures ok { IfOk result (λ number. (lowest_free self.old.descriptors ≡ Some number)
             × (self.new ≡ record self.old { descriptors = insert self.old.descriptors number descriptor })) }
@@ -167,7 +169,8 @@ impl ClientRecord {
         Ok(number)
     }
 
-    /// Creates a ruleset that handles these rights, at an ABI level. Returns its number.
+    /// Creates a ruleset that handles these rights, at an ABI level. Returns its number. Errors: those of
+    /// `Ruleset::create`; EMFILE at the limit of rulesets; NoMemory. Nothing has changed then.
     pub fn create_ruleset(&mut self, alloc: Global, abi: Abi, handled: Access) -> Result<u64, Errno>
         ensures ok { IfOk result (λ number.
             (create_refusals abi handled.0 ++ refuse (nat_le CLIENT_RULESETS (length self.old.rulesets)) Errno.EMFILE
@@ -193,7 +196,7 @@ impl ClientRecord {
         Ok(number as u64)
     }
 
-    /// Enforces an existing ruleset as the newest layer.
+    /// Enforces an existing ruleset as the newest layer. Errors: those of `Domain::stack`; nothing has changed.
     pub fn confine(&mut self, number: u64) -> Result<(), Errno>
         requires { number < length self.old.rulesets }
         ensures ok { OnOk result ((layer_limit self.old.domain ≡ [])

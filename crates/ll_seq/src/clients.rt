@@ -17,7 +17,8 @@ use ll_rights::{Abi, Access, Errno, Kind};
 use std::alloc::Global;
 
 impl NumberMap<ClientRecord> {
-    /// Opens a file at the client's lowest free descriptor. Returns its number.
+    /// Opens a file at the client's lowest free descriptor. Returns its number. Errors: EMFILE if none is free;
+    /// NoMemory. Nothing has changed then.
     pub fn open(&mut self, client: u64, descriptor: Descriptor) -> Result<u64, Errno>
         requires { has self.old client ≡ true }
         ensures ok { IfOk result (λ number. (c : record_of.ClientRecord) → get self.old client ≡ Some c
@@ -48,7 +49,8 @@ impl NumberMap<ClientRecord> {
         row.1.descriptors.remove(number);
     }
 
-    /// Creates a ruleset of the client that handles these rights, at an ABI level. Returns its number.
+    /// Creates a ruleset of the client that handles these rights, at an ABI level. Returns its number. Errors: those of
+    /// `ClientRecord::create_ruleset`; nothing has changed.
     pub fn create_ruleset(
         &mut self,
         alloc: Global,
@@ -73,7 +75,8 @@ impl NumberMap<ClientRecord> {
         row.1.create_ruleset(alloc, abi, handled)
     }
 
-    /// Adds a rule to an existing ruleset of the client, on the inode of a node of this kind.
+    /// Adds a rule to an existing ruleset of the client, on the inode of a node of this kind. Errors: those of
+    /// `Ruleset::allow`; nothing has changed.
     pub fn allow(
         &mut self,
         client: u64,
@@ -101,7 +104,8 @@ impl NumberMap<ClientRecord> {
         row.1.rulesets.allow(number, inode, kind, rights)
     }
 
-    /// Enforces an existing ruleset of the client as its newest layer.
+    /// Enforces an existing ruleset of the client as its newest layer. Errors: those of `Domain::stack`; nothing has
+    /// changed.
     pub fn confine(&mut self, client: u64, number: u64) -> Result<(), Errno>
         requires there { has self.old client ≡ true }
         requires made { (c : record_of.ClientRecord) → get self.old client ≡ Some c → number < length c.rulesets }

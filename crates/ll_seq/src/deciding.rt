@@ -37,7 +37,7 @@ fn denial_of(call: &Call, found: &Found, granted: &Granted<'_>) -> Option<Denial
     least_denial(&demands, granted)
 }
 
-/// Decides a call that names a path. Returns its effect, or the reply if the call is refused or denied.
+/// Decides a call that names a path. Returns its effect. Errors: the reply, if the call is refused or denied.
 pub fn decide<'a>(
     caller: &ClientRecord,
     call: &'a Call,
@@ -58,8 +58,8 @@ pub fn decide<'a>(
     decide_passed(caller, call, found, granted)
 }
 
-/// Decides a call that passed the early checks, as every call that walks did. Returns its effect, or the reply if it is
-/// refused or denied.
+/// Decides a call that passed the early checks, as every call that walks did. Returns its effect. Errors: the reply, if
+/// the call is refused or denied.
 pub fn decide_passed<'a>(
     caller: &ClientRecord,
     call: &'a Call,

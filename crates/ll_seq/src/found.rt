@@ -30,7 +30,7 @@ pub struct There {
     pub has_many_names: bool,
 }
 
-/// What a walk finds for one path: what blocks the way to its last name, if anything; otherwise the directory of that
+/// What a walk finds for one path: the obstacle on the way to its last name, if any. Without one: the directory of that
 /// name, whether the directory is full, and the node under the name.
 #[derive(Clone, Copy)]
 pub struct Spot {

@@ -1,4 +1,4 @@
--- What comes of all steps of a call, which are made one after the other. own
+-- The outcome of a call whose steps are made one after the other. own
 use Rattle.std.specs.Prelude.{◌≡◌, ◌≢◌, ◌⊎◌, ℕ}
 use Rattle.ll_seq.specs.declared.call.Call.{Call}
 use Rattle.ll_laws.specs.declared.step.Step.{Step}
@@ -13,7 +13,7 @@ use Rattle.ll_steps.specs.Makes.{Makes}
 abbrev pub Waits : World → Step → Type 0
 Waits w step' = advance w step' ≡ (world.NotNow, w)
 
--- the first of a fork, a descent and a restart that is enabled
+-- the first enabled one of a fork, a descent and a restart is made
 abbrev pub GoesOn : World → ℕ → World → Type 0
 GoesOn w client v =
     Makes w (Fork client) report.Forked v
@@ -23,15 +23,15 @@ GoesOn w client v =
 abbrev pub IsStuck : World → ℕ → Type 0
 IsStuck w client = Waits w (Fork client) × Waits w (Descend client) × Waits w (Restart client)
 
--- The client's walk is answered as soon as it may be, and goes on before. It waits where none of its steps is enabled
+-- The client's walk commits as soon as it may, and goes on until then. It waits if none of its steps is enabled
 pub data Leads (client : ℕ) : World → Report → World → Type 0 where
   answered : (w w' : World) (o : Report) → Makes w (Commit client) o w' → o ≢ report.NotNow → Leads client w o w'
   goes_on : (w v w' : World) (o : Report) → Waits w (Commit client) → GoesOn w client v → Leads client v o w'
       → Leads client w o w'
   waits : (w : World) → Waits w (Commit client) → IsStuck w client → Leads client w report.NotNow w
 
--- A call on a descriptor, or for the client alone, is one step. Any other sets out, if it may, and then its walk is led
--- on. The outcome is that of the last step; a walk that waits stays under way
+-- A call on a descriptor, or for the client alone, is one step. Any other begins its walk, if it may, and then the walk
+-- is led on. The outcome is the last step's. A walk that waits stays under way
 pub data Calls (w : World) (client : ℕ) (call : Call) : Report → World → Type 0 where
   on_file : (w' : World) (o : Report) → Makes w (FdCommit client call) o w' → o ≢ report.NotNow
       → Calls w client call o w'

@@ -1,4 +1,4 @@
--- What lies in the slots, and how it is tied to the journal. No public contract cites it. own
+-- What the slots hold, and how that agrees with the journal. No public contract cites it. own
 use Rattle.std.specs.Prelude.{◌≡◌, ℕ, ◌≤◌, List, length, slice_index_or}
 use Rattle.ll_node.specs.declared.held.Held.{Held}
 use Rattle.ll_node.specs.Lent.{vacant}
@@ -23,7 +23,7 @@ pub record IsKept (b : Book) (slots : List Held) : Type 0 where
   pub sound : IsSound b.world
   pub within : length b.world.history ≤ b.world.limit
 
--- what the journal tells of a step
+-- the report of what the journal returns for a step
 abbrev pub told_as : journal.Progress → Report
 told_as told.NotNow = NotNow
 told_as told.Astray = NotNow
@@ -31,13 +31,13 @@ told_as (told.Stands inode) = Stands inode
 told_as told.Forked = Forked
 told_as told.Restarted = Restarted
 
--- what it tells of a call without a walk, whose entry would have this number
+-- the report of a call without a walk; its entry would have this number
 abbrev pub answered_as : ℕ → Made → Report
 answered_as number (answer.Replied reply) = Replied number
 answered_as number answer.HistoryFull = Refused HistoryFull
 answered_as number answer.NoMemory = Refused NoMemory
 
--- what it tells of a commit
+-- the report of a commit
 abbrev pub ended_as : ℕ → Ending → Report
 ended_as number ending.NotNow = NotNow
 ended_as number ending.Astray = NotNow

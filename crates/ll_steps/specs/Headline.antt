@@ -12,30 +12,30 @@ use Rattle.ll_laws.specs.Walks.{AreValid, AreApart, AreFew, GateIsHeld}
 use Rattle.ll_steps.specs.declared.report.Report.{Report}
 use Rattle.ll_steps.specs.Makes.{Makes, Adds}
 
--- What holds of every world: of its history, of the walks that are under way, and between any two points of the history
+-- What holds in every world: of its history, of the walks under way, and between any two points of the history
 pub record IsLawful (w : World) : Type 0 where
   pub legal : IsLegal (start w.rules w.room) w.history
   pub within : length w.history ≤ w.limit
-  -- what a walk has found is so in the tree as it is shown, unless it is stale
+  -- what a walk has found is right in the visible tree, unless the walk is stale
   pub valid : AreValid w
   -- no directory has two marks
   pub apart : AreApart w
   -- no walk starts more than four times
   pub few : AreFew w
-  -- who needs the gate holds it, and is never stale
+  -- whoever needs the gate holds it, and is never stale
   pub gate : GateIsHeld w
   -- reach never grows under a layer, and withheld bytes stay withheld
   pub between : (early late rest : List Entry) → w.history ≡ early ++ late ++ rest →
       GainsNothing w.rules w.room early late × Withholds w.rules w.room early late
 
--- the same tree, with these entries more
+-- the same tree after these entries were added
 pub record Grows (w w' : World) (added : List Entry) : Type 0 where
   pub came : Came w w' added
   pub rules : w'.rules ≡ w.rules
   pub room : w'.room ≡ w.room
   pub limit : w'.limit ≡ w.limit
 
--- Each step has its outcome, and adds what the outcome tells of to the history: these entries, in order, and no other
+-- Each step has its outcome, and adds to the history exactly the entries that its outcome implies, in order
 abbrev pub Runs : World → List Step → List Report → List Entry → World → Type 0
 Runs w [] [] added w' = (added ≡ []) × (w' ≡ w)
 Runs w (step' ∷ steps) (outcome ∷ outcomes) added w' =

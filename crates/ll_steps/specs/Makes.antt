@@ -1,4 +1,4 @@
--- What comes of a step, and which entry it adds to the history. own
+-- The outcome of a step, and the entry that it adds to the history. own
 use Rattle.std.specs.Prelude.{◌≡◌, ◌⊎◌, true, List, [], ◌∷◌, length, Some, slice_get}
 use Rattle.ll_rights.specs.declared.errno.Errno.TheVariants.{NoMemory}
 use Rattle.ll_seq.specs.declared.call.Call.TheVariants.{Connect}
@@ -12,21 +12,21 @@ use Rattle.ll_journal.specs.Starving.{Starves}
 use Rattle.ll_steps.specs.declared.report.Report.{Report}
 use Rattle.ll_steps.specs.declared.report.Report.TheVariants as report
 
--- ---- Want of memory
+-- ---- If memory runs out
 
--- what is left: a walk that was to be answered has ended, and nothing else has changed
+-- the world then: a walk that was to be answered has ended, and nothing else has changed
 abbrev pub starved : World → Step → World
 starved w (Commit number) = without_walk w number
 starved w step' = w
 
 -- ---- Outcomes
 
--- A full history takes no entry, and a connect that is refused has none
+-- no entry is added: the history is full, or a connect is refused
 abbrev pub IsUntold : World → Step → Type 0
 IsUntold w step' = (is_full w ≡ true) ⊎ (step' ≡ Join)
 
--- The outcome is that of the step, and so is the world after. A reply is that of the entry which is last then. Or
--- memory ran out, for a step to which that may happen
+-- The outcome and the world are the step's. A reply is that of the last entry. Or memory ran out, for a step to which
+-- that may happen
 abbrev pub Makes : World → Step → Report → World → Type 0
 Makes w step' report.NotNow w' = advance w step' ≡ (world.NotNow, w')
 Makes w step' report.Begun w' = advance w step' ≡ (world.Begun, w')
@@ -43,8 +43,8 @@ Makes w step' (report.Refused errno) w' =
 
 -- ---- Entries
 
--- What the step adds to the history: where an entry tells of the outcome, that one, of the step's client and call. (Its
--- number and its reply are above)
+-- what the step adds to the history: an entry with the step's client and call, if its outcome has one. (Its number and
+-- its reply are above)
 abbrev pub Adds : World → Step → Report → List Entry → Type 0
 Adds w step' (report.Joined number) added = added ≡ record { client = number; call = Connect; reply = reply.Done } ∷ []
 Adds w step' (report.Replied k) added =

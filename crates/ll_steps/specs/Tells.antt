@@ -1,4 +1,4 @@
--- What comes of a line of a schedule, and the line that tells it. own
+-- The outcome of a schedule's line, and the line printed for it. own
 use Rattle.std.specs.Prelude.{◌≡◌, ℕ, ◌≤◌, true, List, [], ◌∷◌, IfSome, Result, Ok, Err, codes, decimal, slice_get}
 use Rattle.std.specs.Option.{option_map_or}
 use Rattle.ll_rights.specs.declared.errno.Errno.{Errno}
@@ -17,7 +17,7 @@ use Rattle.ll_wire.specs.ScheduleLines.{SpellsScheduleLine, client_in, line_hold
 use Rattle.ll_wire.specs.declared.schedule.ScheduleLine.{ScheduleLine}
 use Rattle.ll_wire.specs.declared.schedule.ScheduleLine.TheVariants as lines
 
--- A reply is told by the entry of the history that has it
+-- a reply is printed from the history's entry with it
 abbrev pub outcome_tokens : List Entry → Report → List (List ℕ)
 outcome_tokens history NotNow = codes "NotNow" ∷ []
 outcome_tokens history Begun = codes "begun" ∷ []
@@ -32,7 +32,7 @@ outcome_tokens history (Refused errno) = codes "reply" ∷ reply_tokens (reply.R
 abbrev pub outcome_line : List Entry → Report → List ℕ
 outcome_line history outcome = line_of (outcome_tokens history outcome)
 
--- the client that the line names, if it names one, has come: clients are numbered from 1 as they come
+-- the client that the line names, if any, exists: clients are numbered from 1 in the order in which they come
 abbrev pub HasCome : World → ScheduleLine → Type 0
 HasCome w value = IfSome (client_in value) (λ client. client ≤ len (shown w).clients)
 
@@ -41,8 +41,8 @@ abbrev pub Does : World → ScheduleLine → Report → World → Type 0
 Does w (lines.Step step) outcome w' = Makes w step outcome w'
 Does w (lines.Do client call) outcome w' = Calls w client call outcome w'
 
--- A piece that spells what a client who has come may do gives the line of its outcome, or, where it holds a word or
--- bytes, want of memory to read them. Every other piece gives `refused 23 BadLine`, and changes nothing
+-- A piece that spells a line for a client that exists is answered with its outcome's line. If reading it takes memory,
+-- it may be answered NoMemory. Every other piece is answered `refused 23 BadLine`, and changes nothing
 pub data Tells (w : World) (piece : List ℕ) : List ℕ → World → Type 0 where
   does : (value : ScheduleLine) (outcome : Report) (w' : World) → SpellsScheduleLine piece value → HasCome w value
       → Does w value outcome w' → Tells w piece (outcome_line w'.history outcome) w'
@@ -51,7 +51,7 @@ pub data Tells (w : World) (piece : List ℕ) : List ℕ → World → Type 0 wh
   bad : ((value : ScheduleLine) → SpellsScheduleLine piece value → HasCome w value → ⊥)
       → Tells w piece (reply_line (reply.Refused BadLine)) w
 
--- the line of what is told of a piece: of its outcome, or why it was not read
+-- the line printed for a piece: its outcome's, or why it was not read
 abbrev pub answer_line : List Entry → Result Report Errno → List ℕ
 answer_line history (Ok outcome) = outcome_line history outcome
 answer_line history (Err errno) = reply_line (reply.Refused errno)

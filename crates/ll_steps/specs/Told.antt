@@ -8,21 +8,21 @@ use Rattle.ll_wire.specs.Pieces.{pieces}
 use Rattle.ll_steps.specs.declared.setup.WorldSetup.{WorldSetup}
 use Rattle.ll_steps.specs.Tells.{Tells}
 
--- before the first line
+-- the world before the first line
 abbrev pub opened : WorldSetup → World
 opened setup = new_world setup.rules setup.nodes setup.history
 
--- how many entries the history has
+-- the number of the history's entries
 abbrev pub last_line : World → List ℕ
 last_line w = verdict_line (Legal (length w.history))
 
--- The lines of the pieces in order, and then the last line
+-- the lines for the pieces, in order, and then the last line
 abbrev pub IsTold : WorldSetup → (input text : List ℕ) → Type 0
 IsTold setup input text =
     (lines : List ℕ) × (last : World) × Transcript Tells (opened setup) (pieces input) lines last
     × (text ≡ lines ++ last_line last)
 
--- A beginning of that, or of the lines of some first pieces
+-- a prefix of that, or of the lines for some first pieces
 abbrev pub IsBegun : WorldSetup → (input text : List ℕ) → Type 0
 IsBegun setup input text =
     ((whole back : List ℕ) × IsTold setup input whole × (whole ≡ text ++ back))

@@ -14,7 +14,7 @@ use std::alloc::Global;
 
 /// Reads a schedule to its end and does what each line asks for, in a tree of its own. Writes one line for each, and at
 /// the end the number of entries in the history. Writes the lines for everything read so far before each further read.
-/// Doesn't use a device again after it failed.
+/// Doesn't use a device again after it failed. Errors: the first fault; what was written is then a prefix of that text.
 pub fn run_schedule<E: Ends>(
     alloc: Global,
     setup: WorldSetup,

@@ -61,7 +61,8 @@ impl Schedule {
         }
     }
 
-    /// Writes the last line: the number of entries in the history.
+    /// Writes the last line: the number of entries in the history. Errors: the output failed, or memory ran out; a
+    /// prefix of the line may be written.
     pub fn finish<E: Ends>(&self, ends: &mut E) -> Result<(), SessionFault>
         requires { IsWhole (E.devices ends.old) }
         ensures ok { OnOk result (Appends (E.devices ends.old).contents (E.devices ends.new).contents

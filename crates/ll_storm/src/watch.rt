@@ -17,14 +17,17 @@ impl Watch {
         }
     }
 
+    /// Counts one reply.
     pub fn count(&self) {
         self.answered.fetch_add(1, Ordering::SeqCst);
     }
 
+    /// Returns the number of replies so far.
     pub fn answered(&self) -> u64 {
         self.answered.load(Ordering::SeqCst)
     }
 
+    /// Records that there are no more calls.
     pub fn end_calls(&self) {
         self.has_ended.store(1, Ordering::SeqCst);
     }

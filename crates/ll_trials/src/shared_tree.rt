@@ -303,8 +303,8 @@ fn furnishes<N: Shape>(
         && makes(rt, alloc, tree, me, Kind::Reg, "/pub/f")
 }
 
-/// Whether each open of a confined client is allowed or denied as the path was at that moment, while another client
-/// exchanges the directory for one that it may not read.
+/// Whether each open of a confined client is allowed or denied as the path was at that moment. Meanwhile another client
+/// exchanges the directory for one that the first may not read.
 fn race<N: Shape + Send + Sync, R: Threads + Wait + Sync>(
     rt: &R,
     alloc: Global,

@@ -180,8 +180,8 @@ fn walk_held_in_one_directory(rt: HostRuntime) {
     assert_eq!(rt; ended, TrialEnd::Right);
 }
 
-/// The call of one of four threads in a round: two move a directory there and back, one links a file and removes the
-/// link, and one creates a file and removes it.
+/// The call of one of four threads in a round. Two move a directory there and back; one links a file and removes the
+/// link; one creates a file and removes it.
 fn call_of(alloc: Global, thread: usize, is_even: bool) -> Option<Call> {
     let path = |text| target(alloc, text);
     match (thread, is_even) {

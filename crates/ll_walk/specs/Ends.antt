@@ -1,11 +1,11 @@
--- What a walk that was to be left has come to. No public contract cites it. own
+-- How a walk ended that was to be left. No public contract cites it. own
 use Rattle.std.specs.Prelude.{Option, Some, None}
 use Rattle.ll_journal.specs.declared.direct.Made.{Made}
 use Rattle.ll_journal.specs.declared.direct.Made.TheVariants as made
 use Rattle.ll_client.specs.declared.left.Left.{Left}
 use Rattle.ll_client.specs.declared.left.Left.TheVariants as left
 
--- what the call came to, where the walk has ended
+-- the result of the call, if the walk has ended
 abbrev pub made_of : Left → Option Made
 made_of (left.Answered reply) = Some (made.Replied reply)
 made_of left.HistoryFull = Some made.HistoryFull

@@ -46,7 +46,8 @@ impl<'a, N: Shape> Section<'a, N> {
         desk.file_slot(me, number)
     }
 
-    /// Makes the client's call on a descriptor, given the slot of its file.
+    /// Makes the client's call on a descriptor, given the slot of its file. Errors: the call, if its step isn't enabled
+    /// or the slot isn't the file's.
     pub fn fd_commit(
         self,
         tie: &Tie<N, Account>,
@@ -65,7 +66,7 @@ impl<'a, N: Shape> Section<'a, N> {
         desk.fd_commit(tie, me, call, file)
     }
 
-    /// Adds a client.
+    /// Adds a client. Errors: HistoryFull; EMFILE if as many clients were made as a tree may have; NoMemory.
     pub fn connect(self, tie: &Tie<N, Account>) -> Result<Client<N>, Errno>
         ensures step { IfOk result (λ client. (w : Book)
             × (advance (mutex_guard_value self.entry.desk).world Join ≡ (Joined client.rider.number, w.world))
@@ -86,7 +87,7 @@ impl<'a, N: Shape> Section<'a, N> {
         desk.connect(tie)
     }
 
-    /// Adds a client whose entry comes after every entry that `me` knows of.
+    /// Adds a client whose entry comes after every entry that `me` knows of. Errors: those of `connect`.
     pub fn connect_after(
         self,
         tie: &Tie<N, Account>,
@@ -112,7 +113,8 @@ impl<'a, N: Shape> Section<'a, N> {
         desk.connect_after(tie, me)
     }
 
-    /// Spawns a child of the client. Errors: why there is none.
+    /// Spawns a child of the client. Errors: HistoryFull; EMFILE if as many clients were made as a tree may have;
+    /// NoMemory.
     pub fn spawn(self, tie: &Tie<N, Account>, me: &mut Client<N>) -> Result<Client<N>, Errno>
         ensures child { IfOk result (λ child. (w : Book)
             × Answers (mutex_guard_value self.entry.desk) (ClientStep me.old.rider.number calls.Spawn)

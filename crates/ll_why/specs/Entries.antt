@@ -1,4 +1,4 @@
--- What is told of an entry of a history. own
+-- What is printed for an entry of a history. own
 use Rattle.std.specs.Prelude.{◌≡◌, ◌⊎◌, ℕ, ◌-◌, ◌≤◌, ◌<◌, false, not, List, [], ◌∷◌, ◌++◌, Option, Some}
 use Rattle.std.specs.Prelude.{codes, decimal, length, slice_get, string_bytes, take, if◌then◌else◌}
 use Rattle.std.specs.List.{concat}
@@ -20,9 +20,8 @@ use Rattle.ll_why.specs.declared.explanation.Explanation.{Explanation}
 use Rattle.ll_why.specs.declared.history.HistoryWhy.{HistoryWhy}
 use Rattle.ll_why.specs.declared.history.HistoryWhy.TheVariants.{Told, BadLine, NoEntry}
 
--- The entry may stand where the tree is in this state. Or else it isn't its client's turn: a call needs one that is
--- there, and a connect one that isn't. Or else what the tree answers there, with any number for a client that is
--- spawned that no client has
+-- Stands: the entry is legal in this state. NoCaller: it isn't its client's turn, as a call needs an existing client,
+-- and a connect a new one. Answers: what the tree answers instead; a spawned client has any unused number
 abbrev pub IsStanding : State → Entry → Standing → Type 0
 IsStanding s e Stands = MayStand s e
 IsStanding s e NoCaller = has s.clients e.client ≡ is_connect e.call
@@ -37,22 +36,22 @@ standing_line e NoCaller =
     else codes "may not stand: the client isn't there\n"
 standing_line e (Answers reply) = line_of (codes "may not stand: the tree answers" ∷ reply_tokens reply)
 
--- its number, its client, its call and its reply, whether it may stand, and what policy says of the call
+-- its number, its client, its call and its reply, whether it is legal, and what policy says of the call
 abbrev pub entry_text : ℕ → Entry → Standing → Option Explanation → List ℕ
 entry_text number e standing told = concat (
     codes "entry " ∷ decimal number ∷ codes ", client " ∷ decimal e.client ∷ codes ": "
     ∷ line_of (call_tokens e.call) ∷ line_of (codes "answered" ∷ reply_tokens e.reply)
     ∷ standing_line e standing ∷ option_map_or (told_text e.call) told [] ∷ [])
 
--- the entries before it may stand, and it is the one of this number, or may not stand itself
+-- it is the wanted entry or an earlier one; the entries before it are legal, and if it is earlier, it isn't
 pub record IsToldOf (s : State) (entries : List Entry) (wanted number : ℕ) : Type 0 where
   pub first : 1 ≤ number
   pub last : number ≤ wanted
   pub legal : IsLegal s (take (number - 1) entries)
   pub one : (number ≡ wanted) ⊎ (IsLegal s (take number entries) → ⊥)
 
--- the text tells of the entry of this number, in the state that the entries before it lead to; and of the opening of
--- the descriptor that has kept what decides its call
+-- The text is about the entry with this number, in the state that the entries before it lead to. It includes the
+-- opening of the descriptor that decides its call
 pub record IsTextOf (s : State) (entries : List Entry) (number : ℕ) (text : List ℕ) : Type 0 where
   pub entry : Entry
   pub standing : Standing
@@ -64,7 +63,7 @@ pub record IsTextOf (s : State) (entries : List Entry) (number : ℕ) (text : Li
   pub opened : IsOpeningText s (opening_behind (take (number - 1) entries) entry told) opening
   pub is : text ≡ entry_text number entry standing told ++ opening
 
--- the line on why the entry of this number may not stand, in the state that the entries before it lead to
+-- the line on why the entry with this number isn't legal, in the state that the entries before it lead to
 pub record IsWhyNot (s : State) (entries : List Entry) (number : ℕ) (line : List ℕ) : Type 0 where
   pub entry : Entry
   pub standing : Standing
@@ -73,12 +72,12 @@ pub record IsWhyNot (s : State) (entries : List Entry) (number : ℕ) (line : Li
   pub fails : IsLegal s (take number entries) → ⊥
   pub is : line ≡ standing_line entry standing
 
--- of the entry that is wanted, or of the first before it that may not stand
+-- on the wanted entry, or on the first before it that isn't legal
 abbrev pub IsEntryWhy : State → List Entry → ℕ → List ℕ → Type 0
 IsEntryWhy s entries wanted text =
     (number : ℕ) × IsToldOf s entries wanted number × IsTextOf s entries number text
 
--- what is told of the entry of this number, from 1, of a saved history with these lines; or its first bad line; or that
+-- the text on the entry with this number, from 1, of a saved history with these lines; or its first bad line; or that
 -- it has no such entry
 abbrev pub IsHistoryWhy : List (List ℕ) → ℕ → HistoryWhy → Type 0
 IsHistoryWhy lines wanted (Told text) =

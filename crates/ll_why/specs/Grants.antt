@@ -1,4 +1,4 @@
--- What one layer grants of some rights on a path, and by which rules. own
+-- Which rights one layer grants on a path, and by which rules. own
 use Rattle.std.specs.Prelude.{◌≡◌, ℕ, ◌<◌, ◌≤◌, Bool, not, ◌&&◌, List, length, take, Some, slice_get}
 use Rattle.std.specs.List.{list_any}
 use Rattle.ll_rights.specs.Access.{holds}
@@ -6,13 +6,13 @@ use Rattle.ll_rules.specs.Layer.{Layer, grants_on, has_rule, restricts}
 use Rattle.ll_why.specs.declared.grants.Grants.{Grants}
 use Rattle.ll_why.specs.declared.grants.Ruled.{Ruled}
 
--- the rule on the inode after these grants the right, and none on these does
+-- the rule on the inode after these allows the right, and no rule on these does
 abbrev pub is_first : Layer → List ℕ → ℕ → ℕ → Bool
 is_first layer before inode right = not (list_any (has_rule layer right) before) && has_rule layer right inode
 
--- Each of the rights is one that the layer doesn't restrict, one that a rule grants, or one that it doesn't grant on a
--- path of these inodes. Rules are told by the inode's place on the path, and of several that grant a right the one
--- nearest the root. Told are no rights but these
+-- Each of the rights is in one of three groups: not restricted by the layer; allowed by a rule; not granted on a path
+-- with these inodes. A rule is given by its inode's place on the path. If several allow a right, only the one nearest
+-- the root has it. No other rights are included
 pub record AreGrants (layer : Layer) (inodes : List ℕ) (rights : ℕ) (g : Grants) : Type 0 where
   pub fewer : (g.free.0 ≤ rights) × (g.missing.0 ≤ rights)
   pub free : (right : ℕ) → right < 15 → holds g.free.0 right ≡ (holds rights right && not (restricts layer right))

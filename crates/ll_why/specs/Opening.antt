@@ -1,4 +1,4 @@
--- Which entry opened the descriptor that decides a call, and what is told of it. own
+-- Which entry opened the descriptor that decides a call, and what is printed for it. own
 use Rattle.std.specs.Prelude.{◌≡◌, ℕ, ◌==◌, ◌&&◌, Bool, false, List, [], ◌∷◌, ◌++◌, Option, Some, None}
 use Rattle.std.specs.Prelude.{codes, decimal, is_some, length, option_and_then, if◌then◌else◌}
 use Rattle.std.specs.List.{concat}
@@ -19,7 +19,7 @@ use Rattle.ll_why.specs.Explained.{IsExplained}
 use Rattle.ll_why.specs.Told.{told_text}
 use Rattle.ll_why.specs.declared.explanation.Explanation.{Explanation}
 
--- what an opening opens
+-- the path that an opening opens
 abbrev pub target_opened : Call → Option Target
 target_opened (Open mode target) = Some target
 target_opened call = None
@@ -32,21 +32,21 @@ abbrev pub is_spawned : ℕ → Reply → Bool
 is_spawned client (Spawned number) = number == client
 is_spawned client reply = false
 
--- the entry opens the client's descriptor of this number
+-- the entry opens the client's descriptor with this number
 abbrev pub opens : ℕ → ℕ → Entry → Bool
 opens client fd e = (e.client == client) && is_opened fd e.reply && is_some (target_opened e.call)
 
--- For each client and number, the entries up to the one that opened that descriptor, and this entry, as far as known
+-- For each client and number, if known: the entries up to the one that opened that descriptor, and this entry
 abbrev pub Openings : Type 0
 Openings = ℕ → ℕ → Option (List Entry × Entry)
 
--- with one entry more, behind those: a spawned client has what its parent has
+-- with one more entry, after those: a spawned client has what its parent has
 abbrev pub opened_after : Openings → List Entry → Entry → Openings
 opened_after known es e client fd =
     if opens client fd e then Some (es ++ e ∷ [], e)
     else known (if is_spawned client e.reply then e.client else client) fd
 
--- with some entries more
+-- with some more entries
 abbrev pub opened_by : Openings → List Entry → List Entry → Openings
 opened_by known es [] = known
 opened_by known es (e ∷ more) = opened_by (opened_after known es e) (es ++ e ∷ []) more
@@ -54,7 +54,7 @@ opened_by known es (e ∷ more) = opened_by (opened_after known es e) (es ++ e �
 abbrev pub openings : List Entry → Openings
 openings es = opened_by (λ client fd. None) [] es
 
--- the descriptor that has kept what decides the call
+-- the descriptor whose opening decided the call
 abbrev pub kept_by : Call → Why → Option ℕ
 kept_by call (Kept denial) = kept_number call
 kept_by call why = None
@@ -62,7 +62,7 @@ kept_by call why = None
 abbrev pub kept_descriptor : Call → Option Explanation → Option ℕ
 kept_descriptor call told = option_and_then (λ (t : Explanation). kept_by call t.why) told
 
--- of a call that what a descriptor keeps decides, which follows these entries, the opening of that descriptor
+-- if a descriptor decides the call, which follows these entries: that descriptor's opening
 abbrev pub opening_behind : List Entry → Entry → Option Explanation → Option (List Entry × Entry)
 opening_behind es e told = option_and_then (λ (fd : ℕ). openings es e.client fd) (kept_descriptor e.call told)
 
@@ -72,7 +72,7 @@ opening_text number e truncate told = concat (
     codes "opened by entry " ∷ decimal number ∷ codes ", client " ∷ decimal e.client ∷ codes ": "
     ∷ line_of (call_tokens e.call) ∷ codes "a truncate there:\n" ∷ option_map_or (told_text truncate) told [] ∷ [])
 
--- the text tells of the last of these entries, with a truncate of what it opens, in the state behind it
+-- the text is on the last of these entries, with a truncate of what it opens, in the state after it
 pub record TellsOpening (s : State) (upto : List Entry) (e : Entry) (text : List ℕ) : Type 0 where
   pub target : Target
   pub told : Option Explanation
@@ -80,7 +80,7 @@ pub record TellsOpening (s : State) (upto : List Entry) (e : Entry) (text : List
   pub explained : IsExplained s.rules.abi (state_after s upto) e.client (Truncate target 0) told
   pub is : text ≡ opening_text (length upto) e (Truncate target 0) told
 
--- and where there is no opening to tell of, nothing is
+-- without such an opening the text is empty
 abbrev pub IsOpeningText : State → Option (List Entry × Entry) → List ℕ → Type 0
 IsOpeningText s None text = text ≡ []
 IsOpeningText s (Some opening) text = TellsOpening s opening.0 opening.1 text

@@ -30,7 +30,7 @@ use Rattle.ll_why.specs.declared.reason.Reason.{Reason}
 use Rattle.ll_why.specs.declared.why.Why.{Why}
 use Rattle.ll_why.specs.declared.why.Why.TheVariants.{Refused, Kept, Judged}
 
--- the inodes of the path of what a right is asked on
+-- the inodes of the path of this `On`
 abbrev pub chain_of : Asks → On → List ℕ
 chain_of asks Itself = asks.first.itself.items
 chain_of asks Other = asks.second.itself.items
@@ -38,12 +38,12 @@ chain_of asks Parent = asks.first.parent.items
 chain_of asks Left = asks.first.parent.items
 chain_of asks Entered = asks.second.parent.items
 
--- no bit is asked that is no right's
+-- only rights that exist are needed
 pub record AreKnown (d : Demands) : Type 0 where
   pub asked : (on : On) → set_on d on < 2 ^ 15
   pub moved : (way : Way) → set_of d way < 2 ^ 15
 
--- the sets are those that the definitions demand of the call, and the chains those of its paths
+-- the sets are those that the call needs, and the chains are those of its paths
 pub record AreAsked (s : State) (call : Call) (asks : Asks) : Type 0 where
   pub demands : AreDemands s call asks.demands
   pub known : AreKnown asks.demands
@@ -56,7 +56,7 @@ grants_in told Parent = told.parent
 grants_in told Left = told.left
 grants_in told Entered = told.entered
 
--- for each thing which of the rights asked on it the layer grants, and by which rule; and what would be gained
+-- for each `On`, which needed rights the layer grants, and by which rule; and which rights would be gained
 pub record IsLayerReason (asks : Asks) (layer : Layer) (told : LayerReason) : Type 0 where
   pub grants : (on : On) → AreGrants layer (chain_of asks on) (set_on asks.demands on) (grants_in told on)
   pub fewer : (told.there.0 ≤ set_of asks.demands There) × (told.back.0 ≤ set_of asks.demands Back)
@@ -65,23 +65,23 @@ pub record IsLayerReason (asks : Asks) (layer : Layer) (told : LayerReason) : Ty
   pub back : (right : ℕ) → right < 15
       → holds told.back.0 right ≡ gaining (grants_along (chain_of asks) layer) asks.demands right Old
 
--- the layer lacks nothing that is asked, and nothing would be gained
+-- the layer lacks no needed right, and no right would be gained
 abbrev pub IsClear : LayerReason → Type 0
 IsClear told = ((on : On) → (grants_in told on).missing.0 ≡ 0) × (told.there.0 ≡ 0) × (told.back.0 ≡ 0)
 
--- And the denial, which is the first of the definitions. There is none where each layer is clear
+-- and the denial, the first of the definitions' denials. There is none if each layer is clear
 pub record IsReason (s : State) (c : ClientRecord) (call : Call) (told : Reason) : Type 0 where
   pub asked : AreAsked s call told.asks
   pub denial : told.denial ≡ slice_get (call_denials s c call) 0
   pub layers : AllZip (λ one layer. IsLayerReason told.asks layer one) told.layers.items c.domain
   pub clear : AllByRecursion IsClear told.layers.items → told.denial ≡ None
 
--- the descriptor whose opening kept what decides the call
+-- the descriptor whose opening decided the call
 abbrev pub kept_number : Call → Option ℕ
 kept_number (Ftruncate fd size) = Some fd
 kept_number call = None
 
--- what refuses the call before policy is asked; or nothing does, and this is what policy says
+-- the refusal that comes before policy; without one, what policy says
 abbrev pub IsWhy : State → ClientRecord → Call → Why → Type 0
 IsWhy s c call (Refused errno) = slice_get (before_policy s c call) 0 ≡ Some errno
 IsWhy s c call (Kept denial) = (before_policy s c call ≡ []) × (denial ≡ slice_get (call_denials s c call) 0)
@@ -90,11 +90,11 @@ IsWhy s c call (Judged told) = (before_policy s c call ≡ []) × IsReason s c c
 abbrev pub IsNotDenied : State → ℕ → Call → Type 0
 IsNotDenied s n call = (fresh : ℕ) (denial : Denial) → (step s n call fresh).0 ≢ reply.Denied denial
 
--- the step answers the denial, or no denial at all
+-- the step's answer is this denial, or no denial
 abbrev pub IsJudgedSo : State → ℕ → Call → Option Denial → Type 0
 IsJudgedSo s n call denial = MatchOption denial (IsNotDenied s n call) (λ d. IsRefused s n call (reply.Denied d))
 
--- what the client's step answers
+-- the answer of the client's step
 abbrev pub IsAnswered : State → ℕ → Call → Why → Type 0
 IsAnswered s n call (Refused errno) = IsRefused s n call (reply.Refused errno)
 IsAnswered s n call (Kept denial) = IsJudgedSo s n call denial

@@ -1,4 +1,4 @@
--- What all layers of a client grant on a path. own
+-- Which rights all layers of a client grant on a path. own
 use Rattle.std.specs.Prelude.{◌≡◌, ℕ, ◌<◌, ◌≤◌, ◌^◌, ◌&&◌, List, Option, Some, None, option_and_then}
 use Rattle.std.specs.List.{AllZip, list_all}
 use Rattle.ll_rights.specs.declared.kind.Kind.{Kind}
@@ -12,24 +12,23 @@ use Rattle.ll_seq.specs.Tree.{ancestors, named}
 use Rattle.ll_why.specs.Grants.{AreGrants}
 use Rattle.ll_why.specs.declared.rights.PathRights.{PathRights}
 
--- the kind of what the path names
+-- the kind of the node that the path leads to
 abbrev pub kind_named : State → Path → Option Kind
 kind_named s path = option_and_then (kind_of s) (named s path)
 
--- where it names nothing, no right means anything
+-- the rights that apply to a node of this kind; without a node, none
 abbrev pub meant : Option Kind → ℕ
 meant None = 0
 meant (Some kind) = relevant kind
 
--- what these layers grant of some rights on a path of these inodes: all of them together, and each
+-- the rights that these layers grant, of some, on a path with these inodes: all layers together, and each alone
 pub record AreByLayers (domain : List Layer) (inodes : List ℕ) (all : ℕ) (told : PathRights) : Type 0 where
   pub fewer : told.rights.0 ≤ all
   pub rights : (right : ℕ) → right < 15 → holds told.rights.0 right
       ≡ (holds all right && list_all (λ layer. grants_on layer inodes right) domain)
   pub layers : AllZip (λ g layer. AreGrants layer inodes all g) told.layers.items domain
 
--- The rights that mean something for what the path names and that every layer grants on it; and what each layer grants
--- of those that mean something
+-- The rights that apply to the path's node and that every layer grants on it; and those that each layer grants
 pub record AreRights (s : State) (domain : List Layer) (path : Path) (told : PathRights) : Type 0 where
   pub kind : told.kind ≡ kind_named s path
   pub known : told.rights.0 < 2 ^ 15

@@ -1,4 +1,4 @@
-//! What a call asks of each layer, and where.
+//! The rights that a call needs of each layer, and where.
 
 ghost use Rattle.std.specs.Prelude.{IfOk};
 ghost use Rattle.ll_seq.specs.Passed.{Passed};
@@ -12,7 +12,7 @@ use ll_plain::Plain;
 use ll_seq::{Call, Found, demands_of};
 use std::alloc::{AllocError, Global};
 
-/// What a call asks of each layer, and the inodes of its two paths, which are one where it has only one.
+/// The rights that a call needs of each layer, and the inodes of its two paths (equal if it has only one).
 #[derive(Drop)]
 pub struct Asks {
     pub demands: Demands,
@@ -21,7 +21,7 @@ pub struct Asks {
 }
 
 impl Asks {
-    /// What the call asks, for which this is found in the tree.
+    /// Returns what the call needs, given what is found for it in the tree. Errors: memory ran out.
     pub fn of_call(
         alloc: Global,
         tree: &Plain,

@@ -12,15 +12,15 @@ use ll_plain::Plain;
 use ll_seq::{Call, ROOT, Targets, targets_of};
 use std::alloc::{AllocError, Global};
 
-/// The inodes of a path, from the root on, as far as its names lead.
+/// The inodes of a path from the root on, until a name leads nowhere.
 #[derive(Drop)]
 pub struct Chain {
     pub inodes: Vec<u64>,
-    /// The node that the path names, if it names one.
+    /// The node that the path leads to, if any.
     pub end: Option<u64>,
 }
 
-// The inode comes behind the others.
+// Appends the inode.
 fn push_inode(inodes: &mut Vec<u64>, inode: u64) -> Result<(), AllocError>
     ensures { OnOk result (inodes.new.items ≡ inodes.old.items ++ inode ∷ []) }
 {
@@ -29,7 +29,7 @@ fn push_inode(inodes: &mut Vec<u64>, inode: u64) -> Result<(), AllocError>
 }
 
 impl Chain {
-    // Of no name.
+    // Returns the chain of no names.
     fn start(alloc: Global) -> Result<Chain, AllocError>
         ensures { IfOk result (λ chain. (s : State) → IsChain s [] chain) }
     {
@@ -41,7 +41,7 @@ impl Chain {
         })
     }
 
-    // With one name more, which stands for this node, if there is one.
+    // Extends the chain by one name, which has this node, if any.
     fn with(mut self, end: Option<u64>) -> Result<Chain, AllocError>
         ensures inodes { IfOk result (λ after. after.inodes.items
             ≡ self.inodes.items ++ option_map_or (λ inode. inode ∷ []) end []) }
@@ -53,7 +53,7 @@ impl Chain {
         Ok(Chain { end, ..self })
     }
 
-    // With one name more.
+    // Extends the chain by one name.
     fn down(self, tree: &Plain, name: &str) -> Result<Chain, AllocError>
         ensures { IfOk result (λ after. (names : Path) → IsChain tree.now names self
             → IsChain tree.now (names ++ name.now ∷ []) after) }
@@ -64,7 +64,7 @@ impl Chain {
         }
     }
 
-    /// The inodes of the path of these names in the tree.
+    /// Returns the inodes of the path with these names in the tree. Errors: memory ran out.
     pub fn of_names(alloc: Global, tree: &Plain, names: Names<'_>) -> Result<Chain, AllocError>
         ensures { IfOk result (IsChain tree.now names.entry) }
     {
@@ -84,7 +84,7 @@ pub struct PathChains {
 }
 
 impl PathChains {
-    // Of the root.
+    // Returns the chains of the root.
     fn of_root(alloc: Global) -> Result<PathChains, AllocError>
         ensures { IfOk result (λ chains. (s : State) → AreChains s [] chains) }
     {
@@ -96,7 +96,7 @@ impl PathChains {
         })
     }
 
-    // Of a path in the tree.
+    // Returns the chains of a path in the tree.
     fn of_path(alloc: Global, tree: &Plain, path: &Path) -> Result<PathChains, AllocError>
         ensures { IfOk result (AreChains tree.now path.now) }
     {
@@ -108,7 +108,7 @@ impl PathChains {
         })
     }
 
-    // Of what a word spells. A word that is no path stands for the root here.
+    // Returns the chains of the path that a word spells. For a word that is no path, those of the root.
     fn of_target(alloc: Global, tree: &Plain, target: &Target) -> Result<PathChains, AllocError>
         ensures { IfOk result (AreChains tree.now (path_of target.now)) }
     {
@@ -118,7 +118,7 @@ impl PathChains {
         }
     }
 
-    /// Of a call's first path in the tree.
+    /// Returns the chains of a call's first path in the tree. Errors: memory ran out.
     pub fn of_first(alloc: Global, tree: &Plain, call: &Call) -> Result<PathChains, AllocError>
         ensures { IfOk result (AreChains tree.now (first_path call.now)) }
     {
@@ -129,7 +129,8 @@ impl PathChains {
         }
     }
 
-    /// Of a call's second path in the tree, which is the first where it has only one.
+    /// Returns the chains of a call's second path in the tree, or of its first if it has only one. Errors: memory ran
+    /// out.
     pub fn of_second(alloc: Global, tree: &Plain, call: &Call) -> Result<PathChains, AllocError>
         ensures { IfOk result (AreChains tree.now (second_path call.now)) }
     {

@@ -1,4 +1,4 @@
-//! The least change of a client's layers that would let a call through.
+//! The least change of a client's layers that would allow a call.
 
 ghost use Rattle.std.specs.Prelude.{◌≡◌, ◌<◌, ◌≤◌, ◌==◌, ℕ, ◌&&◌, ◌||◌, not, [], ◌∷◌, ◌++◌, None, IfOk, OnOk};
 ghost use Rattle.std.specs.Prelude.{MatchOption};
@@ -19,10 +19,11 @@ use ll_rights::{Abi, Access};
 use ll_rules::Layer;
 use std::alloc::{AllocError, Global};
 
-/// What is added to one layer: rules on the nodes of a call's two paths, and on their directories.
+/// The additions to one layer: to rules on the nodes of a call's two paths, and on their directories.
 #[derive(Clone, Copy)]
 pub struct LayerChange {
-    /// What the layer has to handle too: refer, where a rule is to hold it and the layer doesn't handle it.
+    /// The rights that the layer has to handle in addition: refer, if a rule is to have it and the layer doesn't handle
+    /// it.
     pub handled: Access,
     pub itself: Ruled,
     pub other: Ruled,
@@ -30,7 +31,7 @@ pub struct LayerChange {
     pub parent: Ruled,
 }
 
-// A rule of these rights where the path ends.
+// Returns a rule with these rights on the last of these inodes.
 fn rule_at(inodes: &[u64], rights: Access) -> Ruled
     ensures inode { result.inode ≡ end_of inodes.now }
     ensures rights { result.rights ≡ rights }
@@ -41,7 +42,7 @@ fn rule_at(inodes: &[u64], rights: Access) -> Ruled
     }
 }
 
-// What the layer has to handle too, so that rules can hold these rights.
+// Returns the rights that the layer must handle in addition, so that rules can have these rights.
 fn newly_handled(layer: &Layer, sets: Sets) -> Access
     ensures fewer { result.0 ≤ 0x2000 }
     ensures rights { (right : ℕ) → right < 15 → holds result.0 right
@@ -57,7 +58,7 @@ fn newly_handled(layer: &Layer, sets: Sets) -> Access
 }
 
 impl LayerChange {
-    // To the layer these sets are added.
+    // Returns the change that adds these sets to the layer.
     fn of_sets(layer: &Layer, asks: &Asks, sets: Sets) -> LayerChange
         ensures ends { (on : asked_on.On) → (rule_on result on).inode ≡ end_of (chain_of asks.now on) }
         ensures sets { (on : asked_on.On) → (rule_on result on).rights.0 ≡ set_in sets on }
@@ -74,7 +75,7 @@ impl LayerChange {
         }
     }
 
-    // What lets the call through, if a change of this level does.
+    // Returns the change of this level that makes the layer allow the call, or None if there is none.
     fn of_layer(tree: &Plain, level: Abi, layer: &Layer, asks: &Asks) -> Option<LayerChange>
         ensures { MatchOption result (IsBarred level tree.now asks.now layer.now)
             (IsLeastOf level tree.now asks.now layer.now) }
@@ -86,7 +87,7 @@ impl LayerChange {
     }
 }
 
-// The layer's change comes behind the others.
+// Appends the layer's change.
 fn push_change(changes: &mut Vec<LayerChange>, change: LayerChange) -> Result<(), AllocError>
     ensures { OnOk result (changes.new.items ≡ changes.old.items ++ change ∷ []) }
 {
@@ -94,8 +95,8 @@ fn push_change(changes: &mut Vec<LayerChange>, change: LayerChange) -> Result<()
     Ok(())
 }
 
-/// The least change of each of the layers, the oldest first, by which they would let a call through that asks this, in
-/// a tree of this level; or None where none that such a tree accepts does.
+/// Returns the least change of each layer, the oldest first, with which they would allow a call that needs this, in a
+/// tree of this level. None if no change that such a tree accepts does. Errors: memory ran out.
 pub fn change_for(
     alloc: Global,
     tree: &Plain,

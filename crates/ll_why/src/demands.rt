@@ -1,4 +1,4 @@
-//! What a call asks, without a bit that is no right's.
+//! The rights that a call needs, without bits that belong to no right.
 
 ghost use Rattle.std.specs.Prelude.{◌≡◌, ◌<◌, ◌^◌, ℕ, List};
 ghost use Rattle.ll_rights.specs.Access.{holds};
@@ -11,7 +11,7 @@ use crate::places::both;
 use ll_decide::Demands;
 use ll_rights::Access;
 
-// Those that are rights.
+// Returns those that are rights.
 fn known(rights: Access) -> Access
     ensures known { result.0 < 2 ^ 15 }
     ensures rights { (right : ℕ) → right < 15 → holds result.0 right ≡ holds rights.0 right }
@@ -19,7 +19,7 @@ fn known(rights: Access) -> Access
     both(Access::ALL, rights)
 }
 
-/// What is demanded, without a bit that is no right's.
+/// Returns the demands without bits that belong to no right.
 pub(crate) fn known_demands(demands: Demands) -> Demands
     ensures known { AreKnown result }
     ensures asks { (asks : List (Ask asked_on.On)) → AreAsks demands asks → AreAsks result asks }

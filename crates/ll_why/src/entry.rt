@@ -1,4 +1,4 @@
-//! What is told of an entry of a history.
+//! Explains one entry of a history.
 
 ghost use Rattle.std.specs.Prelude.{◌≡◌, ◌<◌, ◌-◌, ◌^◌, ◌↔◌, [], IfOk, IsTrue, string_bytes};
 ghost use Rattle.std.specs.Option.{option_map_or};
@@ -15,13 +15,13 @@ use ll_seq::{Call, Entry, Reply};
 use ll_wire::reply_text_behind;
 use std::alloc::{AllocError, Global};
 
-/// Whether an entry may stand where it does.
+/// Whether an entry is legal where it is.
 #[derive(Drop)]
 pub enum Standing {
     Stands,
-    /// Its client isn't there; or it is there, and the entry connects it.
+    /// Its client doesn't exist; or it does, and the entry connects it.
     NoCaller,
-    /// It may not: this is what the tree answers there.
+    /// The entry isn't legal: this is the tree's reply there.
     Answers(Reply),
 }
 
@@ -37,7 +37,7 @@ fn wants_memory(reply: &Reply) -> bool
     matches!(reply, Reply::Refused(Errno::NoMemory))
 }
 
-/// Tells why an entry that may not stand in the tree's state may not. The tree is changed then.
+/// Returns why an entry that isn't legal in the tree's state isn't. Changes the tree.
 pub(crate) fn answer_at(tree: &mut Plain, entry: &Entry) -> Result<Standing, AllocError>
     requires next { tree.old.next < 2 ^ 64 - 1 }
     requires not { MayStand tree.old entry.now → ⊥ }
@@ -54,7 +54,7 @@ pub(crate) fn answer_at(tree: &mut Plain, entry: &Entry) -> Result<Standing, All
     Ok(Standing::Answers(reply))
 }
 
-/// The client's call explained in a tree of this level, where the client is there.
+/// Explains the client's call in a tree of this level, if the client exists.
 pub(crate) fn explain_at(
     alloc: Global,
     tree: &Plain,
@@ -70,7 +70,7 @@ pub(crate) fn explain_at(
     }
 }
 
-/// Returns the line on whether an entry may stand, empty if it may.
+/// Returns the line on why an entry isn't legal, or the empty text if it is.
 pub(crate) fn standing_line(
     alloc: Global,
     entry: &Entry,
@@ -93,7 +93,7 @@ pub(crate) fn standing_line(
     }
 }
 
-/// What policy says of a call, where its client is there.
+/// Returns what policy says of a call, if its client exists.
 pub(crate) fn told_lines(
     alloc: Global,
     call: &Call,
@@ -107,8 +107,8 @@ pub(crate) fn told_lines(
     }
 }
 
-/// The entry of this number: its client, its call and its reply, whether it may stand, and what policy says of the
-/// call.
+/// Returns the text on the entry with this number: its client, its call and its reply, whether it is legal, and what
+/// policy says of the call.
 pub(crate) fn entry_text(
     alloc: Global,
     number: usize,

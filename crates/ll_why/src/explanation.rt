@@ -1,4 +1,4 @@
-//! Why a client's call is denied, or isn't, with the change that would let it through.
+//! Why a client's call is denied, or isn't, with the least change that would allow it.
 
 ghost use Rattle.std.specs.Prelude.{◌≡◌, ℕ, IfOk, string_bytes};
 ghost use Rattle.ll_seq.specs.Step.{client_of};
@@ -18,16 +18,16 @@ use ll_seq::{Call, ClientRecord};
 use ll_wire::{command_text, is_spelled};
 use std::alloc::{AllocError, Global};
 
-/// Why a client's call is denied, or isn't; and the least change that would let it through.
+/// Why a client's call is denied, or isn't, and the least change that would allow it.
 #[derive(Drop)]
 pub struct Explanation {
     pub why: Why,
-    /// What is added to each layer, the oldest first; None where nothing that the tree accepts lets the call through,
-    /// or no layer is asked.
+    /// The additions to each layer, the oldest first. None if no addition that the tree accepts allows the call, or no
+    /// layer is asked.
     pub changes: Option<Vec<LayerChange>>,
 }
 
-// The least changes that let the call through, where layers are asked.
+// Returns the least changes that allow the call, if layers are asked.
 fn changes_for(
     alloc: Global,
     tree: &Plain,
@@ -44,7 +44,7 @@ fn changes_for(
     }
 }
 
-/// Why the caller's call would be denied in the tree, which is of this level, or wouldn't.
+/// Explains why the caller's call would be denied, or not, in the tree, which has this level. Errors: memory ran out.
 pub fn explain(
     alloc: Global,
     tree: &Plain,
@@ -60,7 +60,7 @@ pub fn explain(
     Ok(Explanation { why, changes })
 }
 
-/// The call's line, without a client.
+/// Returns the call's line, without a client. Errors: memory ran out.
 pub fn call_line(alloc: Global, call: &Call) -> Result<String, AllocError>
     ensures { IfOk result (λ text. string_bytes text ≡ line_of (call_tokens call.now)) }
 {
@@ -72,7 +72,7 @@ pub fn call_line(alloc: Global, call: &Call) -> Result<String, AllocError>
 }
 
 impl Explanation {
-    /// Lines for people, of this call.
+    /// Returns the explanation of this call as lines for people. Errors: memory ran out.
     pub fn text(&self, alloc: Global, call: &Call) -> Result<String, AllocError>
         ensures { IfOk result (λ text. string_bytes text ≡ told_text call.now self.now) }
     {

@@ -1,4 +1,4 @@
-//! What one layer grants on a path, and by which rules.
+//! Which rights one layer grants on a path, and by which rules.
 
 ghost use Rattle.std.specs.Prelude.{◌≡◌, ◌<◌, ◌≤◌, ℕ, not, ◌&&◌, List, [], ◌∷◌, ◌++◌, IfOk, OnOk};
 ghost use Rattle.ll_rights.specs.Access.{holds};
@@ -9,25 +9,25 @@ use ll_rights::Access;
 use ll_rules::Layer;
 use std::alloc::{AllocError, Global};
 
-/// The rights that the rule on an inode grants.
+/// The rights that the rule on an inode allows.
 #[derive(Clone, Copy, Debug, PartialEq, Eq)]
 pub struct Ruled {
     pub inode: u64,
     pub rights: Access,
 }
 
-/// What a layer grants of some rights on a path.
+/// Which of some rights a layer grants on a path.
 #[derive(Drop)]
 pub struct Grants {
-    /// Those that the layer doesn't restrict.
+    /// The rights that the layer doesn't restrict.
     pub free: Access,
-    /// For each inode of the path, from the root on, those that its rule grants and no rule nearer the root does.
+    /// For each inode of the path, from the root on: the rights that its rule allows and no rule nearer the root does.
     pub ruled: Vec<Ruled>,
-    /// Those that the layer doesn't grant.
+    /// The rights that the layer doesn't grant.
     pub missing: Access,
 }
 
-/// Those of the rights that aren't among the others.
+/// Returns the rights that aren't among the others.
 pub(crate) fn without(rights: Access, others: Access) -> Access
     ensures fewer { result.0 ≤ rights.0 }
     ensures rights { (right : ℕ) → right < 15
@@ -36,7 +36,7 @@ pub(crate) fn without(rights: Access, others: Access) -> Access
     Access(rights.0 & !others.0)
 }
 
-// Those of the rights that the layer restricts.
+// Returns the rights that the layer restricts.
 fn restricted(layer: &Layer, rights: Access) -> Access
     ensures fewer { result.0 ≤ rights.0 }
     ensures rights { (right : ℕ) → right < 15
@@ -46,7 +46,7 @@ fn restricted(layer: &Layer, rights: Access) -> Access
     Access(rights.0 & all.0)
 }
 
-// Those of the rights that the rule on the inode grants.
+// Returns the rights that the rule on the inode allows.
 fn rule_grants(layer: &Layer, rights: Access, inode: u64) -> Access
     ensures fewer { result.0 ≤ rights.0 }
     ensures rights { (right : ℕ) → right < 15
@@ -55,7 +55,7 @@ fn rule_grants(layer: &Layer, rights: Access, inode: u64) -> Access
     Access(rights.0 & layer.rule(inode).0)
 }
 
-/// Those of the rights that the layer doesn't grant on a path of these inodes.
+/// Returns the rights that the layer doesn't grant on a path with these inodes.
 pub(crate) fn lacked(layer: &Layer, inodes: &[u64], rights: Access) -> Access
     ensures fewer { result.0 ≤ rights.0 }
     ensures rights { (right : ℕ) → right < 15
@@ -68,7 +68,7 @@ pub(crate) fn lacked(layer: &Layer, inodes: &[u64], rights: Access) -> Access
     missing
 }
 
-// The rule comes behind the others.
+// Appends the rule.
 fn push_rule(rules: &mut Vec<Ruled>, rule: Ruled) -> Result<(), AllocError>
     ensures { OnOk result (rules.new.items ≡ rules.old.items ++ rule ∷ []) }
 {
@@ -77,7 +77,7 @@ fn push_rule(rules: &mut Vec<Ruled>, rule: Ruled) -> Result<(), AllocError>
 }
 
 impl Grants {
-    // On no inode.
+    // Returns the grants on no inode.
     fn start(alloc: Global, layer: &Layer, rights: Access) -> Grants
         ensures { AreGrants layer.now [] rights.0 result }
     {
@@ -89,7 +89,7 @@ impl Grants {
         }
     }
 
-    // With one inode more.
+    // Extends the path by one inode.
     fn down(mut self, layer: &Layer, inode: u64) -> Result<Grants, AllocError>
         ensures { IfOk result (λ after. (inodes : List ℕ) (rights : ℕ) → AreGrants layer.now inodes rights self
             → AreGrants layer.now (inodes ++ inode ∷ []) rights after) }
@@ -106,7 +106,7 @@ impl Grants {
         Ok(Grants { missing, ..self })
     }
 
-    /// What the layer grants of these rights on a path of these inodes.
+    /// Returns which of these rights the layer grants on a path with these inodes. Errors: memory ran out.
     pub fn of_layer(
         alloc: Global,
         layer: &Layer,

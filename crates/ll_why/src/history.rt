@@ -1,4 +1,4 @@
-//! What is told of an entry of a history.
+//! Explains one entry of a saved history.
 
 ghost use Rattle.std.specs.Prelude.{◌≡◌, ◌<◌, ◌≤◌, ◌-◌, ◌+◌, ◌^◌, ◌⊎◌, ℕ, true, false, IfOk, MatchOption, length};
 ghost use Rattle.std.specs.Prelude.{string_bytes, take};
@@ -18,18 +18,18 @@ use ll_seq::Entry;
 use ll_wire::Header;
 use std::alloc::{AllocError, Global};
 
-/// What is told of an entry of a saved history.
+/// The explanation of an entry of a saved history.
 #[derive(Drop)]
 pub enum HistoryWhy {
     /// Lines for people.
     Told(String),
-    /// The first line that is of no form, counted from 1.
+    /// The first malformed line, counted from 1.
     BadLine(usize),
     /// There is no such entry.
     NoEntry,
 }
 
-// The number of the entry that is told of, and whether it may stand. Its tree is used up.
+// Returns the number of the entry to explain, and whether it is legal. The tree can't be used afterwards.
 fn number_told(
     mut tree: Plain,
     entries: &[Entry],
@@ -49,7 +49,7 @@ fn number_told(
     }
 }
 
-// Whether the entry may stand in the tree's state, which is changed then; and if not, what it answers.
+// Returns whether the entry is legal in the tree's state, and if it isn't, the tree's reply. Changes the tree.
 fn standing_at(tree: &mut Plain, entry: &Entry, stands: bool) -> Result<Standing, AllocError>
     requires next { tree.old.next < 2 ^ 64 - 1 }
     requires yes { stands ≡ true → MayStand tree.old entry.now }
@@ -63,7 +63,7 @@ fn standing_at(tree: &mut Plain, entry: &Entry, stands: bool) -> Result<Standing
     }
 }
 
-// The text of the entry of this number, which may stand or not, as is said.
+// Returns the text on the entry with this number, which is legal or not, as `stands` says.
 fn text_of(
     alloc: Global,
     header: &Header,
@@ -91,10 +91,11 @@ fn text_of(
     concat(alloc, &[text.as_str(), opening.as_str()])
 }
 
-/// What is told of the entry of this number, from 1, of the entries of a tree that was opened so: who called, what, and
-/// what was answered; why policy lets the call pass there, or doesn't, and what would; of a call that a descriptor
-/// decides also of its opening; or of an entry that may not stand what the tree answers. Where an entry before it may
-/// not stand, the first of these is told of. There may be no entry of this number. Errors: memory ran out.
+/// Explains the entry with this number, counted from 1, in the history of a tree created with this header. Gives its
+/// client, its call and its reply, and why policy allows or denies the call, with the least change that would allow it.
+/// For a call that a descriptor decides, also explains the descriptor's opening. For an entry that isn't legal, also
+/// gives the tree's reply. If an earlier entry isn't legal, explains the first such one. None if there is no entry with
+/// this number. Errors: memory ran out.
 pub fn explain_entry(
     alloc: Global,
     header: &Header,
@@ -115,7 +116,7 @@ pub fn explain_entry(
     Ok(Some(text))
 }
 
-// The line on why the entry of this number may not stand.
+// Returns the line on why the entry with this number isn't legal.
 fn line_of(
     alloc: Global,
     header: &Header,
@@ -136,9 +137,9 @@ fn line_of(
     standing_line(alloc, wrong, &standing)
 }
 
-/// Returns the line on why the first entry that may not stand may not: its client isn't there, or is there already, or
-/// what the tree answers, of the entries of a tree that was opened so, up to the one of this number, from 1. None if
-/// all of these may stand, or there is no entry of this number. Errors: memory ran out.
+/// Returns the line on why the first illegal entry isn't legal: its client doesn't exist, or exists already, or the
+/// tree's reply is another. Checks the entries of a tree created with this header, up to the one with this number,
+/// counted from 1. None if all of them are legal, or there is no entry with this number. Errors: memory ran out.
 pub fn why_not(
     alloc: Global,
     header: &Header,
@@ -164,7 +165,8 @@ pub fn why_not(
     Ok(Some(line))
 }
 
-/// Explains the entry of this number, from 1, of the saved history in these bytes, as `explain_entry` does.
+/// Explains the entry with this number, counted from 1, of the saved history in these bytes, as `explain_entry` does.
+/// Errors: memory ran out.
 pub fn why_entry(alloc: Global, bytes: &[u8], wanted: usize) -> Result<HistoryWhy, AllocError>
     ensures { IfOk result (IsHistoryWhy (pieces bytes.now) wanted) }
 {

@@ -1,4 +1,4 @@
-//! What layers make of what a call asks, and what would let it through, as lines.
+//! The lines on what each layer says of the rights that a call needs, and on what would allow the call.
 
 ghost use Rattle.std.specs.Prelude.{◌≡◌, IfOk, string_bytes};
 ghost use Rattle.std.specs.List.{enumerate_from, flat_map};
@@ -15,7 +15,7 @@ use ll_rights::Access;
 use ll_seq::Call;
 use std::alloc::{AllocError, Global};
 
-// What the rule on the node with so many of the path's names grants.
+// Returns the line on the rights that the rule on the node with this many of the path's names allows.
 fn rule_line(
     alloc: Global,
     start: &str,
@@ -31,7 +31,7 @@ fn rule_line(
     rights_line(alloc, words.as_str(), rule.rights)
 }
 
-// What the rules grant on the nodes of the path, from the root on.
+// Returns the lines on the rules on the path's nodes, from the root on.
 fn rule_lines(
     alloc: Global,
     start: &str,
@@ -50,7 +50,7 @@ fn rule_lines(
     Ok(text)
 }
 
-// What a layer doesn't restrict, what its rules grant, and what it doesn't grant.
+// Returns the lines on what a layer doesn't restrict, what its rules allow, and what it doesn't grant.
 fn grant_lines(
     alloc: Global,
     start: &str,
@@ -68,7 +68,7 @@ fn grant_lines(
     concat(alloc, &[free.as_str(), ruled.as_str(), missing.as_str()])
 }
 
-// What a layer grants of what is asked on it.
+// Returns what a layer grants of the rights needed here.
 fn grants_in(told: &LayerReason, on: On) -> &Grants
     ensures { result.now ≡ grants_in told.now on }
 {
@@ -81,7 +81,7 @@ fn grants_in(told: &LayerReason, on: On) -> &Grants
     }
 }
 
-// The lines of what is asked on one thing.
+// Returns the lines on the rights needed on one `On`.
 fn on_lines(
     alloc: Global,
     call: &Call,
@@ -97,7 +97,7 @@ fn on_lines(
     grant_lines(alloc, start.as_str(), call, on, grants_in(told, on))
 }
 
-// The lines of all that is asked.
+// Returns the lines on all rights needed.
 fn each_lines(
     alloc: Global,
     call: &Call,
@@ -123,7 +123,7 @@ fn each_lines(
     concat(alloc, &parts)
 }
 
-// What a node that comes into a directory would gain there.
+// Returns the line on the rights that a node moved into a directory would gain there.
 fn gain_line(
     alloc: Global,
     call: &Call,
@@ -139,7 +139,7 @@ fn gain_line(
     rights_line(alloc, words.as_str(), rights)
 }
 
-// What the layer of this number makes of what is asked.
+// Returns the lines on what the layer with this number says of the rights needed.
 fn layer_lines(
     alloc: Global,
     call: &Call,
@@ -158,7 +158,7 @@ fn layer_lines(
     concat(alloc, &[each.as_str(), there.as_str(), back.as_str()])
 }
 
-// What has to be added to a rule on one thing.
+// Returns the line on what must be added to a rule on one `On`.
 fn added_line(
     alloc: Global,
     call: &Call,
@@ -174,7 +174,7 @@ fn added_line(
     rights_line(alloc, words.as_str(), rights)
 }
 
-// What has to be added to the layer of this number.
+// Returns the lines on what must be added to the layer with this number.
 fn change_lines(
     alloc: Global,
     call: &Call,
@@ -206,7 +206,7 @@ fn change_lines(
     concat(alloc, &parts)
 }
 
-// What each layer makes of what is asked, the oldest first.
+// Returns the lines on what each layer says of the rights needed, the oldest first.
 fn all_layer_lines(
     alloc: Global,
     call: &Call,
@@ -224,7 +224,7 @@ fn all_layer_lines(
     Ok(text)
 }
 
-// What has to be added to each layer, the oldest first; or that nothing that may be added lets the call through.
+// Returns the lines on what must be added to each layer, the oldest first, or on that no addition allows the call.
 fn all_change_lines(
     alloc: Global,
     call: &Call,
@@ -239,7 +239,7 @@ fn all_change_lines(
     }
 }
 
-// What has to be added to each of the layers, the oldest first.
+// Returns the lines on what must be added to each of the layers, the oldest first.
 fn each_change_lines(
     alloc: Global,
     call: &Call,
@@ -257,7 +257,7 @@ fn each_change_lines(
     Ok(text)
 }
 
-// What is asked, on each thing.
+// Returns the lines on the rights needed, on each `On`.
 fn asked_lines(alloc: Global, call: &Call, asks: &Asks) -> Result<String, AllocError>
     ensures { IfOk result (λ text. string_bytes text ≡ flat_map (asked_line call.now asks.now) each_on) }
 {
@@ -285,7 +285,7 @@ fn undenied_line(denial: Option<Denial>) -> &'static str
     }
 }
 
-/// What is asked, what each layer makes of it, and what would let the call through.
+/// Returns the lines on the rights needed, what each layer says of them, and what would allow the call.
 pub(crate) fn reason_lines(
     alloc: Global,
     call: &Call,

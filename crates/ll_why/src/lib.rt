@@ -1,4 +1,4 @@
-//! What the layers of a client grant on a path, and by which rules; and why a call is denied.
+//! Which rights the layers of a client grant on a path, and by which rules; and why a call is denied.
 #![tactic(auto)]
 
 mod asks;

@@ -20,13 +20,13 @@ use std::alloc::{AllocError, Global};
 /// The entry that opened a client's descriptor.
 #[derive(Clone, Copy)]
 struct Opening<'a> {
-    /// All entries up to this one, which is the last of them.
+    /// All entries up to and including this one.
     upto: &'a [Entry],
     last: &'a Entry,
     target: &'a Target,
 }
 
-// What the call opens.
+// Returns what the call opens.
 fn target_opened(call: &Call) -> Option<&Target>
     ensures { option_map (λ t. t.now) result ≡ target_opened call.now }
 {
@@ -48,7 +48,7 @@ fn is_spawned(reply: &Reply, client: u64) -> bool
     matches!(reply, Reply::Spawned(number) if *number == client)
 }
 
-// Whose descriptors the client has before the entry: its own, or those of the client that the entry spawns it by.
+// Returns the client whose descriptors this one has, before the entry: itself, or its parent if the entry spawns it.
 fn holder_before(entry: &Entry, client: u64) -> u64
     ensures { result ≡ (if is_spawned client entry.now.reply then entry.now.client else client) }
 {
@@ -59,7 +59,7 @@ fn holder_before(entry: &Entry, client: u64) -> u64
     }
 }
 
-// What the entry opens as the client's descriptor of this number, if it does.
+// Returns what the entry opens as the client's descriptor with this number, if anything.
 fn opened_target(entry: &Entry, client: u64, descriptor: u64) -> Option<&Target>
     ensures some { IfSome result (λ t. (opens client descriptor entry.now ≡ true)
         × (target_opened entry.now.call ≡ Some t.now)) }
@@ -72,7 +72,7 @@ fn opened_target(entry: &Entry, client: u64, descriptor: u64) -> Option<&Target>
     }
 }
 
-// Which of the entries opened the descriptor of this number that the client has behind them.
+// Returns the entry that opened the descriptor with this number, which the client has after these entries.
 fn opening_in<'a>(entries: &'a [Entry], client: u64, descriptor: u64) -> Option<Opening<'a>>
     ensures opening { option_map (λ o. (o.upto.now, o.last.now)) result
         ≡ openings entries.entry.now client descriptor }
@@ -91,7 +91,7 @@ fn opening_in<'a>(entries: &'a [Entry], client: u64, descriptor: u64) -> Option<
     None
 }
 
-// The descriptor that has kept what decides the call, if one has.
+// Returns the descriptor whose opening decided the call, if any.
 fn kept_descriptor(call: &Call, told: &Option<Explanation>) -> Option<u64>
     ensures { result ≡ kept_descriptor call.now told.now }
 {
@@ -104,7 +104,7 @@ fn kept_descriptor(call: &Call, told: &Option<Explanation>) -> Option<u64>
     }
 }
 
-// The opening of the descriptor that decides the entry's call, which follows these entries.
+// Returns the opening of the descriptor that decides the entry's call, which follows these entries.
 fn opening_behind<'a>(
     entries: &'a [Entry],
     entry: &Entry,
@@ -120,7 +120,7 @@ fn opening_behind<'a>(
     }
 }
 
-// The same path, or the same word that spells none.
+// Returns a copy of the path argument.
 fn copied(alloc: Global, target: &Target) -> Result<Target, AllocError>
     ensures { IfOk result (λ copy. copy ≡ target.now) }
 {
@@ -138,7 +138,7 @@ fn truncate_of(alloc: Global, target: &Target) -> Result<Call, AllocError>
     Ok(Call::Truncate(target, 0))
 }
 
-// The entry of this number, which opened a descriptor, and what policy says of a truncate there.
+// Returns the text on the entry with this number, which opened a descriptor, and what policy says of a truncate there.
 fn opening_text(
     alloc: Global,
     number: usize,
@@ -165,7 +165,7 @@ fn opening_text(
     concat(alloc, &parts)
 }
 
-// What is told of an opening.
+// Returns the text on an opening.
 fn lines_of(alloc: Global, header: &Header, opening: &Opening<'_>) -> Result<String, AllocError>
     requires some { 1 ≤ header.now.nodes }
     requires most { header.now.nodes ≤ TREE_NODES }
@@ -180,8 +180,8 @@ fn lines_of(alloc: Global, header: &Header, opening: &Opening<'_>) -> Result<Str
     opening_text(alloc, opening.upto.len(), opening.last, &truncate, &told)
 }
 
-/// What is told of the opening of the descriptor that decides the entry's call, which follows these entries; nothing
-/// where none does.
+/// Returns the text on the opening of the descriptor that decides the entry's call, which follows these entries. Empty
+/// if none decides it.
 pub(crate) fn opening_lines(
     alloc: Global,
     header: &Header,

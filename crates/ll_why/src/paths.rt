@@ -1,4 +1,4 @@
-//! What the rights of a call are asked on, as texts.
+//! The nodes that a call needs rights on, as texts.
 
 ghost use Rattle.std.specs.Prelude.{◌≡◌, ◌++◌, [], IfOk, OnOk, option_map, string_bytes, take, unwrap_or};
 ghost use Rattle.ll_decide.specs.Demands.{place_on, set_on};
@@ -16,7 +16,7 @@ use ll_rights::Access;
 use ll_seq::{Call, Targets, targets_of};
 use std::alloc::{AllocError, Global};
 
-// The path that the word spells. A word that is no path stands for the root.
+// Returns the path that the word spells, or None for a word that is no path: it counts as the root.
 fn spelled(target: &Target) -> Option<&Path>
     ensures { unwrap_or (option_map (λ p. p.now) result) [] ≡ path_of target.now }
 {
@@ -26,7 +26,7 @@ fn spelled(target: &Target) -> Option<&Path>
     }
 }
 
-// The call's first path, or the root.
+// Returns the call's first path. None means the root.
 fn first_path(call: &Call) -> Option<&Path>
     ensures { unwrap_or (option_map (λ p. p.now) result) [] ≡ first_path call.now }
 {
@@ -37,7 +37,7 @@ fn first_path(call: &Call) -> Option<&Path>
     }
 }
 
-// The call's second path, which is the first where it has only one, or the root.
+// Returns the call's second path, or its first if it has only one. None means the root.
 fn second_path(call: &Call) -> Option<&Path>
     ensures { unwrap_or (option_map (λ p. p.now) result) [] ≡ second_path call.now }
 {
@@ -48,7 +48,7 @@ fn second_path(call: &Call) -> Option<&Path>
     }
 }
 
-// The path whose node it is, or directory; or the root.
+// Returns the path of this `On`: its node's, or its directory's. None means the root.
 fn path_on(call: &Call, on: On) -> Option<&Path>
     ensures { unwrap_or (option_map (λ p. p.now) result) [] ≡ path_on call.now on }
 {
@@ -58,7 +58,7 @@ fn path_on(call: &Call, on: On) -> Option<&Path>
     }
 }
 
-// The inodes of the path of it.
+// Returns the inodes of its path.
 fn chain_on(asks: &Asks, on: On) -> &[u64]
     ensures { result.now ≡ chain_of asks.now on }
 {
@@ -70,7 +70,7 @@ fn chain_on(asks: &Asks, on: On) -> &[u64]
     }
 }
 
-// The place that a denial tells of it.
+// Returns the place that a denial names for it.
 fn place_on(on: On) -> Place
     ensures { result ≡ place_on on }
 {
@@ -81,7 +81,7 @@ fn place_on(on: On) -> Place
     }
 }
 
-// The rights that are asked on it.
+// Returns the rights that are needed on it.
 fn set_on(demands: &Demands, on: On) -> Access
     ensures { result.0 ≡ set_on demands.now on }
 {
@@ -94,7 +94,7 @@ fn set_on(demands: &Demands, on: On) -> Access
     }
 }
 
-// The name comes behind the names before it, of which there are so many.
+// Appends the name, after this many others.
 fn push_name(text: &mut String, before: usize, name: &str) -> Result<(), AllocError>
     ensures { OnOk result (string_bytes text.new ≡ string_bytes text.old ++ parted before name.now) }
 {
@@ -104,7 +104,7 @@ fn push_name(text: &mut String, before: usize, name: &str) -> Result<(), AllocEr
     text.push_str(name)
 }
 
-// The text of the node with so many of the path's names.
+// Returns the text of the node with this many of the path's names.
 fn names_text(alloc: Global, path: &Path, count: usize) -> Result<String, AllocError>
     ensures { IfOk result (λ text. string_bytes text ≡ path_text (take count path.now)) }
 {
@@ -119,7 +119,7 @@ fn names_text(alloc: Global, path: &Path, count: usize) -> Result<String, AllocE
     Ok(text)
 }
 
-/// The text of the node with so many of the names of this thing's path.
+/// Returns the text of the node with this many names of the path of this `On`.
 pub(crate) fn upper_text(
     alloc: Global,
     call: &Call,
@@ -134,7 +134,7 @@ pub(crate) fn upper_text(
     }
 }
 
-/// Where the inodes of this thing's path end.
+/// Returns the text of the part of the path whose inodes exist.
 pub(crate) fn node_text(
     alloc: Global,
     call: &Call,
@@ -147,7 +147,7 @@ pub(crate) fn node_text(
     upper_text(alloc, call, on, count)
 }
 
-/// The same, and the place that a denial tells of it.
+/// Returns the text of the node, with the place that a denial names for it.
 pub(crate) fn seat_text(
     alloc: Global,
     call: &Call,
@@ -160,7 +160,7 @@ pub(crate) fn seat_text(
     concat(alloc, &[node.as_str(), " (", place_on(on).text(), ")"])
 }
 
-/// The rights that are asked on it, as a line.
+/// Returns the line on the rights that are needed on it.
 pub(crate) fn asked_line(
     alloc: Global,
     call: &Call,

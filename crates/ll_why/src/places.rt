@@ -1,4 +1,4 @@
-//! Where rights have to be added so that a layer lets a call through: the search for the narrowest places.
+//! Where rights must be added so that a layer allows a call: the search for the narrowest places.
 
 ghost use Rattle.std.specs.Prelude.{◌≡◌, ◌<◌, ◌≤◌, ◌==◌, ◌^◌, ℕ, Bool, ◌&&◌, ◌||◌, MatchOption, bit_and};
 ghost use Rattle.std.specs.List.{list_any};
@@ -30,8 +30,8 @@ pub(crate) struct Sets {
     pub parent: Access,
 }
 
-/// Some of the places where rights may be added: the node of a call's first path, that of its second, the directory of
-/// the second, and that of the first.
+/// Some of the places where rights may be added: the nodes of a call's first and second path, and the second path's and
+/// the first path's directories.
 #[derive(Clone, Copy)]
 pub(crate) struct Places {
     pub itself: bool,
@@ -40,7 +40,7 @@ pub(crate) struct Places {
     pub parent: bool,
 }
 
-/// For each path of a call, and for each directory's, which places are on it.
+/// For each path of a call, and for each directory's, the places that are on it.
 #[derive(Clone, Copy)]
 struct Ways {
     itself: Places,
@@ -49,7 +49,7 @@ struct Ways {
     parent: Places,
 }
 
-/// The last inode of a path.
+/// Returns the last inode of a path.
 pub(crate) fn end_of(inodes: &[u64]) -> u64
     ensures { result ≡ end_of inodes.now }
 {
@@ -60,7 +60,7 @@ pub(crate) fn end_of(inodes: &[u64]) -> u64
     }
 }
 
-// Whether the inode is among these.
+// Reports whether the inode is among these.
 fn is_on(inode: u64, inodes: &[u64]) -> bool
     ensures { result ≡ list_any (λ i. i == inode) inodes.now }
 {
@@ -74,7 +74,7 @@ fn has_bit(number: u64, bit: u8) -> bool
     number >> bit & 1 == 1
 }
 
-/// Those of the rights that are among the others too.
+/// Returns the rights that are in both sets.
 pub(crate) fn both(rights: Access, others: Access) -> Access
     ensures fewer { result.0 ≤ rights.0 }
     ensures rights { (right : ℕ) → holds result.0 right ≡ (holds rights.0 right && holds others.0 right) }
@@ -82,14 +82,14 @@ pub(crate) fn both(rights: Access, others: Access) -> Access
     Access(rights.0 & others.0)
 }
 
-// All rights where the test says so.
+// Returns all rights if the test holds, else none.
 fn all_if(rights: Access, test: bool) -> Access
     ensures { (right : ℕ) → right < 15 → holds result.0 right ≡ (holds rights.0 right || test) }
 {
     if test { Access::ALL } else { rights }
 }
 
-// These rights too where the test says so.
+// Adds these rights if the test holds.
 fn more_if(rights: Access, test: bool, more: Access) -> Access
     ensures known { rights.0 < 2 ^ 15 → more.0 < 2 ^ 15 → result.0 < 2 ^ 15 }
     ensures rights { (right : ℕ) → holds result.0 right ≡ (holds rights.0 right || (test && holds more.0 right)) }
@@ -98,7 +98,7 @@ fn more_if(rights: Access, test: bool, more: Access) -> Access
 }
 
 impl Places {
-    // Those that the number stands for.
+    // Returns the places of this number.
     fn of_number(number: u64) -> Places
         ensures { (on : asked_on.On) → is_among result on ≡ chosen_by number on }
     {
@@ -110,7 +110,7 @@ impl Places {
         }
     }
 
-    // Those of a call that are on a path of these inodes.
+    // Returns the places of a call that are on a path with these inodes.
     fn on_path(asks: &Asks, inodes: &[u64]) -> Places
         ensures { (on : asked_on.On) (from : asked_on.On) → inodes.now ≡ chain_of asks.now on
             → is_among result from ≡ leads asks.now from on }
@@ -123,7 +123,7 @@ impl Places {
         }
     }
 
-    // Whether some place is among both.
+    // Reports whether some place is in both.
     fn meet(self, others: Places) -> bool
         ensures { result ≡ (self.itself && others.itself || self.other && others.other
             || self.entered && others.entered || self.parent && others.parent) }
@@ -143,7 +143,7 @@ impl Sets {
         parent: Access(0),
     };
 
-    // These rights too at these places.
+    // Adds these rights at these places.
     fn with(self, places: Places, rights: Access) -> Sets
         ensures known { ((on : asked_on.On) → set_in self on < 2 ^ 15) → rights.0 < 2 ^ 15
             → (on : asked_on.On) → set_in result on < 2 ^ 15 }
@@ -158,7 +158,7 @@ impl Sets {
         }
     }
 
-    // What a rule may hold where each path of a call ends, and each directory's.
+    // Returns the rights that a rule may have at the end of each path of a call, and of each directory's.
     fn allowed(tree: &Plain, level: Abi, asks: &Asks) -> Sets
         ensures { (on : asked_on.On) → set_in result on ≡ may_hold level tree.now asks.now on }
     {
@@ -170,7 +170,7 @@ impl Sets {
         }
     }
 
-    // The rights that are among the sets of all these places.
+    // Returns the rights that are in the sets of all these places.
     fn shared(self, places: Places) -> Access
         ensures { (right : ℕ) → right < 15 → holds result.0 right ≡ fits (set_in self) (is_among places) right }
     {
@@ -181,7 +181,7 @@ impl Sets {
         both(both(both(itself, other), entered), parent)
     }
 
-    // What the layer grants on each path of a call, and on each directory's.
+    // Returns the rights that the layer grants on each path of a call, and on each directory's.
     fn granted(layer: &Layer, asks: &Asks) -> Sets
         ensures { (on : asked_on.On) (right : ℕ) → right < 15
             → holds (set_in result on) right ≡ grants_on layer.now (chain_of asks.now on) right }
@@ -194,7 +194,7 @@ impl Sets {
         }
     }
 
-    // The rights that a layer which grants so much denies somewhere.
+    // Returns the rights that a layer which grants this denies somewhere.
     fn denied(self, demands: &Demands) -> Access
         ensures { (right : ℕ) → right < 15
             → holds result.0 right ≡ denies (λ on r. holds (set_in self on) r) demands.now right }
@@ -208,14 +208,15 @@ impl Sets {
     }
 }
 
-// What the layer grants on a path of these inodes.
+// Returns the rights that the layer grants on a path with these inodes.
 fn granted_on(layer: &Layer, inodes: &[u64]) -> Access
     ensures { (right : ℕ) → right < 15 → holds result.0 right ≡ grants_on layer.now inodes.now right }
 {
     without(Access::ALL, lacked(layer, inodes, Access::ALL))
 }
 
-// What a rule may hold on the node where a path of these inodes ends: what the level knows and its kind can hold.
+// Returns the rights that a rule may have on the last of these inodes: those that the level knows and that apply to its
+// kind.
 fn allowed_on(tree: &Plain, level: Abi, inodes: &[u64]) -> Access
     ensures { result.0 ≡ bit_and (known_set level) (meant (kind_of tree.now (end_of inodes.now))) }
 {
@@ -223,7 +224,7 @@ fn allowed_on(tree: &Plain, level: Abi, inodes: &[u64]) -> Access
 }
 
 impl Ways {
-    // Of a call.
+    // Returns the ways of a call.
     fn of_call(asks: &Asks) -> Ways
         ensures { AreWays asks.now result }
     {
@@ -235,7 +236,7 @@ impl Ways {
         }
     }
 
-    // What is granted where all rights are added at these places.
+    // Returns what is granted after all rights were added at these places.
     fn added(self, granted: Sets, places: Places) -> Sets
         ensures { (asks : asks_of.Asks) (chosen : asked_on.On → Bool) → AreWays asks self
             → ((on : asked_on.On) → is_among places on ≡ chosen on)
@@ -251,8 +252,8 @@ impl Ways {
     }
 }
 
-/// The rights that have to be added to the layer so that it lets the call through, each at the narrowest places where
-/// rules may hold it; or None where a right can't be added so that it does.
+/// Returns the rights that must be added to the layer so that it allows the call, each at the narrowest places where
+/// rules may have it. None if some right can't be added.
 pub(crate) fn least_sets(tree: &Plain, level: Abi, layer: &Layer, asks: &Asks) -> Option<Sets>
     ensures { MatchOption result (IsBarred level tree.now asks.now layer.now)
         (λ sets. AreLeastSets level tree.now asks.now layer.now (set_in sets)) }

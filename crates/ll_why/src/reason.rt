@@ -1,4 +1,4 @@
-//! Why a client's layers deny what a call asks, or allow it.
+//! Why a client's layers deny a call, or allow it.
 
 ghost use Rattle.std.specs.Prelude.{◌≡◌, ◌<◌, ◌≤◌, ℕ, ◌&&◌, not, List, [], ◌∷◌, ◌++◌, length, IfOk, OnOk};
 ghost use Rattle.std.specs.List.{AllZip};
@@ -20,7 +20,7 @@ use ll_rights::limits::DOMAIN_LAYERS;
 use ll_rules::{Domain, Layer};
 use std::alloc::{AllocError, Global};
 
-/// What one layer grants of what a call asks, and what it would let a node gain.
+/// The rights needed by a call that one layer grants, and the rights that a node would gain.
 #[derive(Drop)]
 pub struct LayerReason {
     pub itself: Grants,
@@ -28,9 +28,9 @@ pub struct LayerReason {
     pub parent: Grants,
     pub left: Grants,
     pub entered: Grants,
-    /// What the first path's node would gain in the second path's directory.
+    /// The rights that the first path's node would gain in the second path's directory.
     pub there: Access,
-    /// What the second path's node would gain in the first path's directory.
+    /// The rights that the second path's node would gain in the first path's directory.
     pub back: Access,
 }
 
@@ -38,13 +38,13 @@ pub struct LayerReason {
 #[derive(Drop)]
 pub struct Reason {
     pub asks: Asks,
-    /// What is denied, if anything is.
+    /// The denial, if there is one.
     pub denial: Option<Denial>,
-    /// What each layer grants of what is asked, the oldest first.
+    /// The rights needed that each layer grants, the oldest first.
     pub layers: Vec<LayerReason>,
 }
 
-// Those of the rights that the layer grants on the one path and not on the other.
+// Returns the rights that the layer grants on path `into` and not on path `from`.
 fn gained(layer: &Layer, rights: Access, into: &[u64], from: &[u64]) -> Access
     ensures fewer { result.0 ≤ rights.0 }
     ensures rights { (right : ℕ) → right < 15 → holds result.0 right
@@ -55,7 +55,7 @@ fn gained(layer: &Layer, rights: Access, into: &[u64], from: &[u64]) -> Access
 }
 
 impl LayerReason {
-    // Of this layer, for what is asked.
+    // Returns this layer's reason, for the rights needed.
     fn of_layer(alloc: Global, layer: &Layer, asks: &Asks) -> Result<LayerReason, AllocError>
         ensures { IfOk result (IsLayerReason asks.now layer.now) }
     {
@@ -83,18 +83,18 @@ impl LayerReason {
     }
 }
 
-// What the layer grants on a path of these inodes.
+// Returns the rights that the layer grants on a path with these inodes.
 fn mask_on(layer: &Layer, inodes: &[u64]) -> Access
     ensures { IsMask result.0 layer.now inodes.now }
 {
     without(Access::ALL, lacked(layer, inodes, Access::ALL))
 }
 
-// What each layer grants on a path of these inodes.
+// Returns the rights that each layer grants on a path with these inodes.
 fn masks_on(alloc: Global, domain: &Domain, inodes: &[u64]) -> Masks
     ensures { AreMasks result domain.now inodes.now }
 {
-    // There is a place for each layer.
+    // The masks have a place for each layer.
     prove!(domain.len() <= DOMAIN_LAYERS);
     let mut masks = Masks::empty(alloc);
     for layer in domain.layers() {
@@ -103,7 +103,7 @@ fn masks_on(alloc: Global, domain: &Domain, inodes: &[u64]) -> Masks
     masks
 }
 
-// What the layers deny of what is asked: of all denials the one that is told.
+// Returns the layers' denial of the rights needed: of all denials, the one that is reported.
 pub(crate) fn denial_of(alloc: Global, domain: &Domain, asks: &Asks) -> Option<Denial>
     ensures { (a : List (Ask asked_on.On)) (m : List (Move asked_on.On)) → AreAsks asks.now.demands a
         → AreMoves asks.now.demands m → result ≡ verdict (grants_along (chain_of asks.now)) domain.now a m }
@@ -121,7 +121,7 @@ pub(crate) fn denial_of(alloc: Global, domain: &Domain, asks: &Asks) -> Option<D
     least_denial(&asks.demands, &granted)
 }
 
-// The layer's reason comes behind the others.
+// Appends the layer's reason.
 fn push_reason(told: &mut Vec<LayerReason>, one: LayerReason) -> Result<(), AllocError>
     ensures { OnOk result (told.new.items ≡ told.old.items ++ one ∷ []) }
 {
@@ -134,7 +134,7 @@ fn push_reason(told: &mut Vec<LayerReason>, one: LayerReason) -> Result<(), Allo
     }
 }
 
-// What each layer grants of what is asked.
+// Returns each layer's reason for the rights needed.
 pub(crate) fn layer_reasons(
     alloc: Global,
     layers: &[Layer],

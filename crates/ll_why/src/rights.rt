@@ -1,4 +1,4 @@
-//! What all layers of a client grant on a path.
+//! Which rights all layers of a client grant on a path.
 
 ghost use Rattle.std.specs.Prelude.{◌≡◌, ℕ, List, [], ◌∷◌, ◌++◌, IfOk, option_and_then};
 ghost use Rattle.ll_rules.specs.Layer as layer_of;
@@ -13,18 +13,18 @@ use ll_rights::{Access, Kind};
 use ll_rules::{Domain, Layer};
 use std::alloc::{AllocError, Global};
 
-/// What the layers of a client grant on a path.
+/// The rights that the layers of a client grant on a path.
 #[derive(Drop)]
 pub struct PathRights {
-    /// The kind of what the path names, if it names something.
+    /// The kind of the path's node, if it exists.
     pub kind: Option<Kind>,
-    /// The rights that mean something there and that every layer grants.
+    /// The rights that apply to the node and that every layer grants.
     pub rights: Access,
-    /// What each layer grants of the rights that mean something there, the oldest first.
+    /// For each layer, the oldest first, which rights that apply to the node it grants.
     pub layers: Vec<Grants>,
 }
 
-/// The rights that mean something for what a path names.
+/// Returns the rights that apply to a node of this kind, or none without a node.
 pub(crate) fn meaningful(kind: Option<Kind>) -> Access
     ensures { result.0 ≡ meant kind }
 {
@@ -34,7 +34,7 @@ pub(crate) fn meaningful(kind: Option<Kind>) -> Access
     }
 }
 
-// The kind of a path's node, if there is one.
+// Returns the kind of the path's node, if it exists.
 fn kind_at(tree: &Plain, end: Option<u64>) -> Option<Kind>
     ensures { result ≡ option_and_then (kind_of tree.now) end }
 {
@@ -45,7 +45,7 @@ fn kind_at(tree: &Plain, end: Option<u64>) -> Option<Kind>
 }
 
 impl PathRights {
-    // By no layer.
+    // Returns the rights under no layers.
     fn start(alloc: Global, kind: Option<Kind>, all: Access) -> PathRights
         ensures kind { result.kind ≡ kind }
         ensures layers { (inodes : List ℕ) → AreByLayers [] inodes all.0 result }
@@ -57,7 +57,7 @@ impl PathRights {
         }
     }
 
-    // By one layer more.
+    // Adds one more layer.
     fn under(
         mut self,
         alloc: Global,
@@ -81,7 +81,7 @@ impl PathRights {
         }
     }
 
-    // By all layers.
+    // Returns the rights under all layers.
     fn by_layers(
         alloc: Global,
         kind: Option<Kind>,
@@ -100,7 +100,7 @@ impl PathRights {
     }
 }
 
-/// What the domain's layers grant on the path in the tree.
+/// Returns the rights that the domain's layers grant on the path in the tree. Errors: memory ran out.
 pub fn rights_on(
     alloc: Global,
     tree: &Plain,

@@ -1,4 +1,4 @@
-//! Texts of several parts.
+//! Texts with several parts.
 
 ghost use Rattle.std.specs.Prelude.{◌≡◌, map, IfOk, string_bytes};
 ghost use Rattle.std.specs.List.{concat};
@@ -7,7 +7,7 @@ ghost use Rattle.ll_why.specs.Told.{rights_line};
 use ll_rights::Access;
 use std::alloc::{AllocError, Global};
 
-/// The parts in a row.
+/// Concatenates the parts.
 pub(crate) fn concat(alloc: Global, parts: &[&str]) -> Result<String, AllocError>
     ensures { IfOk result (λ text. string_bytes text ≡ concat (map (λ p. p.now) parts.now)) }
 {
@@ -18,7 +18,7 @@ pub(crate) fn concat(alloc: Global, parts: &[&str]) -> Result<String, AllocError
     Ok(text)
 }
 
-/// Some rights behind words that say what they are, as a line; nothing where there is none.
+/// Returns a line with these words and then the rights, or the empty text if there are none.
 pub(crate) fn rights_line(alloc: Global, words: &str, rights: Access) -> Result<String, AllocError>
     ensures { IfOk result (λ text. string_bytes text ≡ rights_line words.now rights.0) }
 {

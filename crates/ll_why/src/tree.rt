@@ -11,7 +11,7 @@ use ll_seq::Entry;
 use ll_wire::Header;
 use std::alloc::{AllocError, Global};
 
-/// A tree as the header tells of it, when it was opened.
+/// Returns a new tree as the header describes it.
 pub(crate) fn open(alloc: Global, header: &Header) -> Result<Plain, AllocError>
     requires some { 1 ≤ header.now.nodes }
     requires most { header.now.nodes ≤ TREE_NODES }
@@ -20,7 +20,7 @@ pub(crate) fn open(alloc: Global, header: &Header) -> Result<Plain, AllocError>
     Plain::new(alloc, header.version.rules(), header.nodes)
 }
 
-/// The tree behind these entries, where they are legal; where they aren't, memory is told to have run out.
+/// Returns the tree after these entries if they are legal. If they aren't, the error says that memory ran out.
 pub(crate) fn tree_after(
     alloc: Global,
     header: &Header,

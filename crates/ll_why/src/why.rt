@@ -19,15 +19,15 @@ use std::alloc::{AllocError, Global};
 /// Why a client's call is denied, or isn't.
 #[derive(Drop)]
 pub enum Why {
-    /// This refuses it before policy is asked.
+    /// The refusal that comes before policy.
     Refused(Errno),
-    /// No layer is asked: what the descriptor has kept since its opening denies the call, or nothing does.
+    /// No layer is asked: the descriptor's opening decided whether the call is denied.
     Kept(Option<Denial>),
     /// The client's layers are asked.
     Judged(Reason),
 }
 
-/// The descriptor whose opening kept what decides the call.
+/// Returns the descriptor whose opening decided the call.
 pub fn kept_number(call: &Call) -> Option<u64>
     ensures { result ≡ kept_number call.now }
 {
@@ -37,7 +37,7 @@ pub fn kept_number(call: &Call) -> Option<u64>
     }
 }
 
-// What the descriptor has kept that denies ftruncate.
+// Returns the denial of ftruncate that the descriptor keeps.
 fn kept_denial(caller: &ClientRecord, number: u64) -> Option<Denial>
     ensures { (s : State) (size : ℕ)
         → result ≡ slice_get (call_denials s caller.now (call_of.Call.Ftruncate number size)) 0 }
@@ -52,7 +52,7 @@ fn kept_denial(caller: &ClientRecord, number: u64) -> Option<Denial>
     })
 }
 
-// Why the caller's layers deny the call, or allow it, for which this is found.
+// Returns why the caller's layers deny the call, or allow it, given what is found for it.
 fn reason_of(
     alloc: Global,
     tree: &Plain,
@@ -74,7 +74,7 @@ fn reason_of(
     })
 }
 
-/// Why the caller's call would be denied in the tree, or wouldn't.
+/// Returns why the caller's call would be denied, or not, in the tree. Errors: memory ran out.
 pub fn why_of(
     alloc: Global,
     tree: &Plain,

@@ -1,10 +1,10 @@
--- Two devices, of which one gives bytes and one takes them, and what a call of either does. own
+-- Two devices, one read from and one written to, and what a call of either does. own
 use Rattle.std.specs.Prelude.{◌≡◌, ℕ, ◌+◌, ◌-◌, ◌==◌, Bool, true, false, List, [], ◌∷◌, Option, count_by}
 use Rattle.std.specs.Prelude.{if◌then◌else◌}
 
--- remaining: the bytes that reads will give, where that is known. contents: those that were written, where that is
--- known. reads: how many reads gave bytes. owed: how many line feeds were read and are not yet answered by one that is
--- written. is_answering: whether line feeds are owed at all. A device that failed once is broken
+-- remaining: the bytes that reads will return, if known. contents: the bytes written, if known. reads: how many reads
+-- returned bytes. owed: how many line feeds were read and are not yet answered by a written one. is_answering: whether
+-- line feeds are owed at all. A device that failed once is broken
 pub record Devices : Type 0 where
   pub remaining : Option (List ℕ)
   pub contents : Option (List ℕ)
@@ -29,7 +29,7 @@ untouched remaining contents is_answering = record {
 abbrev pub line_feeds : List ℕ → ℕ
 line_feeds bytes = count_by (λ b. b == 10) bytes
 
--- a read of these bytes counts where it gave any
+-- a read counts if it returned any bytes
 abbrev pub counted : List ℕ → ℕ
 counted [] = 0
 counted (b ∷ bytes) = 1
@@ -38,7 +38,7 @@ counted (b ∷ bytes) = 1
 abbrev pub IsWhole : Devices → Type 0
 IsWhole d = (d.is_input_broken ≡ false) × (d.is_output_broken ≡ false)
 
--- a call of the other device leaves this as it was
+-- a call of the other device leaves this one unchanged
 abbrev pub KeepsInput : (old new : Devices) → Type 0
 KeepsInput old new =
     (new.remaining ≡ old.remaining) × (new.reads ≡ old.reads) × (new.is_input_broken ≡ old.is_input_broken)
@@ -49,7 +49,7 @@ KeepsOutput old new =
     (new.contents ≡ old.contents) × (new.is_output_broken ≡ old.is_output_broken)
     × (new.is_answering ≡ old.is_answering)
 
--- a read gave these bytes: an answer to each of their line feeds is owed
+-- a read returned these bytes; for each of their line feeds an answer is owed
 abbrev pub Gave : (old new : Devices) → List ℕ → Type 0
 Gave old new bytes =
     (new.reads ≡ old.reads + counted bytes)
@@ -61,7 +61,7 @@ abbrev pub GaveNone : (old new : Devices) → Type 0
 GaveNone old new =
     (new.reads ≡ old.reads) × (new.owed ≡ old.owed) × (new.is_input_broken ≡ true) × KeepsOutput old new
 
--- a write took these bytes: each of their line feeds answers one
+-- a write took these bytes; each of their line feeds answers one
 abbrev pub Took : (old new : Devices) → List ℕ → Type 0
 Took old new bytes =
     (new.owed ≡ old.owed - line_feeds bytes) × (new.is_output_broken ≡ false) × KeepsInput old new

@@ -1,4 +1,4 @@
--- The one spelling of each entry of a history, and of a history's header, the line before them. own
+-- The only spelling of each entry of a history, and of its header, the line before them. own
 use Rattle.std.specs.Prelude.{◌≡◌, ⊤, ℕ, ◌^◌, ◌≤◌, ◌<◌, Bool, true, false, ◌||◌, ◌⊎◌, List, [], ◌∷◌, ◌++◌, length}
 use Rattle.std.specs.Prelude.{codes, decimal}
 use Rattle.ll_rights.specs.declared.errno.Errno.{Errno}
@@ -31,20 +31,20 @@ IsEntryReply reply = IsReply reply × ((errno : Errno) → reply ≡ Refused err
 abbrev pub IsEntry : Entry → Type 0
 IsEntry e = (e.client < 2 ^ 64) × IsEntryCall e.call × IsEntryReply e.reply
 
--- The client's number, the call, the token `=`, and the reply
+-- the client's number, the call, the token `=`, and the reply
 abbrev pub entry_tokens : Entry → List (List ℕ)
 entry_tokens e = decimal e.client ∷ (call_tokens e.call ++ codes "=" ∷ reply_tokens e.reply)
 
 abbrev pub entry_line : Entry → List ℕ
 entry_line e = line_of (entry_tokens e)
 
--- The line spells the entry
+-- the line spells the entry
 pub record SpellsEntry (line : List ℕ) (e : Entry) : Type 0 where
   pub is_entry : IsEntry e
   pub short : length line ≤ ENTRY_LIMIT
   pub text : line ≡ entry_line e
 
--- its call holds a word or bytes, or its reply tells bytes or names. Every other entry takes no memory to be read
+-- Reading it takes memory: its call has a word or bytes, or its reply has bytes or names
 abbrev pub entry_holds_text : Entry → Bool
 entry_holds_text e = holds_text e.call || tells_text e.reply
 
@@ -70,16 +70,16 @@ level_tokens One = []
 level_tokens (Two abi) = codes "abi" ∷ decimal abi ∷ []
 level_tokens (Three abi) = codes "abi" ∷ decimal abi ∷ []
 
--- The version, how many nodes may live in the tree, and the tree's ABI level, which version 1 doesn't tell
+-- The version, how many nodes may be alive in the tree, and the tree's ABI level, which version 1 doesn't have
 abbrev pub header_tokens : Header → List (List ℕ)
 header_tokens h =
     codes "landtree-history" ∷ version_text h.version ∷ codes "nodes" ∷ decimal h.nodes ∷ level_tokens h.version
 
--- The line spells the header
+-- the line spells the header
 abbrev pub SpellsHeader : List ℕ → Header → Type 0
 SpellsHeader line h = IsHeader h × (line ≡ line_of (header_tokens h))
 
--- What the tree was opened with: without a level the newest, and copies only from version 3 on
+-- The rules that the tree was created with. Version 1 has no level, and means 3. Copied descriptors came with version 3
 abbrev pub version_rules : Version → Rules
 version_rules One = record { abi = 3; copies = false }
 version_rules (Two abi) = record { abi = abi; copies = false }

@@ -19,18 +19,18 @@ SpellsEntryCall tokens call = IsEntryCall call × (tokens ≡ call_tokens call)
 abbrev pub SpellsEntryReply : List ℕ → Reply → Type 0
 SpellsEntryReply text reply = IsEntryReply reply × (text ≡ join_with_byte 32 (reply_tokens reply))
 
--- the text spells what stands behind the client: the call, the sign, and the reply
+-- the text spells what follows the client: the call, the sign, and the reply
 abbrev pub SpellsAnswered : List ℕ → Call → Reply → Type 0
 SpellsAnswered text call reply =
     IsEntryCall call × IsEntryReply reply
     × (text ≡ join_with_byte 32 (call_tokens call ++ codes "=" ∷ reply_tokens reply))
 
--- the text spells the calls that the tokens do, with the replies that the rest does
+-- the text spells the calls that the tokens spell, with the replies that the rest spells
 abbrev pub CutsAt : List ℕ → List (List ℕ) → List ℕ → Type 0
 CutsAt text tokens rest = (call : Call) (reply : Reply)
     → SpellsAnswered text call reply ↔ (SpellsEntryCall tokens call × SpellsEntryReply rest reply)
 
--- what stands before the line feed spells the entry
+-- the part before the line feed spells the entry
 abbrev pub SpellsEntryBody : List ℕ → Entry → Type 0
 SpellsEntryBody body e = IsEntry e × (body ≡ join_with_byte 32 (entry_tokens e))
 
@@ -40,7 +40,7 @@ SpellsNodes token nodes = (1 ≤ nodes) × (nodes ≤ TREE_NODES) × (token ≡ 
 abbrev pub SpellsLevel : List ℕ → ℕ → Type 0
 SpellsLevel token abi = (1 ≤ abi) × (abi ≤ 3) × (token ≡ decimal abi)
 
--- the first token is the version's, and the others tell its level
+-- the first token is the version's, and the others give its level
 abbrev pub SpellsVersion : List ℕ → List (List ℕ) → Version → Type 0
 SpellsVersion number level version =
     IsVersion version × (number ≡ version_text version) × (level ≡ level_tokens version)

@@ -1,4 +1,4 @@
--- First words of replies: how they are spelled, and which replies begin with them. own
+-- The first words of a reply: how they are spelled, and which replies begin with them. own
 use Rattle.std.specs.Prelude.{◌≡◌, ⊤, ℕ, ◌^◌, ◌<◌, ◌≤◌, Bool, true, false, List, [], ◌∷◌, ◌++◌, Option, None, Some}
 use Rattle.std.specs.Prelude.{codes, decimal}
 use Rattle.std.specs.List.{join_with_byte}
@@ -23,7 +23,7 @@ use Rattle.ll_wire.specs.declared.first_words.RefusalWords.TheVariants as refusa
 use Rattle.ll_wire.specs.declared.first_words.DenialWords.{DenialWords}
 use Rattle.ll_wire.specs.declared.first_words.DenialWords.TheVariants as denial
 
--- ---- when words behind a reply's name have a spelling, and their tokens
+-- ---- the words after a reply's name: when they have a spelling, and their tokens
 
 abbrev pub number_told : Option ℕ → Type 0 × List (List ℕ)
 number_told None = (⊤, [])
@@ -67,7 +67,7 @@ denial_told (denial.Whole d) = (
   errno_text (cause_errno d.cause) ∷ codes "layer" ∷ decimal d.layer ∷ right_text d.right ∷ place_text d.place ∷ [],
 )
 
--- ---- the same, behind a name
+-- ---- the words with the reply's name before them
 
 abbrev pub named : List ℕ → Type 0 × List (List ℕ) → Type 0 × List (List ℕ)
 named name told = (told.0, name ∷ told.1)
@@ -92,7 +92,7 @@ first_tokens words = (first_told words).1
 abbrev pub SpellsFirst : List ℕ → FirstWords → Type 0
 SpellsFirst text words = (first_told words).0 × (text ≡ join_with_byte 32 (first_tokens words))
 
--- names or bytes are given
+-- they include names or bytes
 abbrev pub holds_text : FirstWords → Bool
 holds_text (Bytes (Some bytes)) = true
 holds_text (Listed names) = true
@@ -131,7 +131,7 @@ BeginsDenial (denial.Number cause layer) d = (d.cause ≡ cause) × (d.layer ≡
 BeginsDenial (denial.Right cause layer right) d = (d.cause ≡ cause) × (d.layer ≡ layer) × (d.right ≡ right)
 BeginsDenial (denial.Whole given) d = d ≡ given
 
--- the reply has this name, and what is given
+-- the reply has this name, and these words after it
 abbrev pub Begins : FirstWords → Reply → Type 0
 Begins Done replies.Done = ⊤
 Begins (Opened number) (replies.Opened got) = BeginsNumber number got
@@ -162,6 +162,6 @@ SpellsDenialWords tokens words = (denial_told words).0 × (tokens ≡ (denial_to
 abbrev pub SpellsFirstTokens : List (List ℕ) → FirstWords → Type 0
 SpellsFirstTokens tokens words = (first_told words).0 × (tokens ≡ first_tokens words)
 
--- neither names nor bytes are given
+-- they include neither names nor bytes
 abbrev pub SpellsShortWords : List (List ℕ) → FirstWords → Type 0
 SpellsShortWords tokens words = SpellsFirstTokens tokens words × (holds_text words ≡ false)

@@ -1,4 +1,4 @@
--- The one spelling of each command and of each reply. own
+-- The only spelling of each command and of each reply. own
 use Rattle.std.specs.Prelude.{◌≡◌, ⊤, ℕ, ◌^◌, ◌≤◌, ◌<◌, ◌==◌, Bool, true, false, List, [], ◌∷◌, ◌++◌, length, codes}
 use Rattle.std.specs.Prelude.{decimal, if◌then◌else◌}
 use Rattle.std.specs.List.{join_with_byte}
@@ -47,11 +47,11 @@ creation_text Never = []
 creation_text IfMissing = codes "c"
 creation_text Exclusive = codes "cx"
 
--- t empties the file, c makes a missing one, x after it wants none
+-- t empties the file, c creates a missing one, and x after it fails if there is one
 abbrev pub mode_text : Mode → List ℕ
 mode_text mode = way_text mode.access ++ truncate_text mode.truncate ++ creation_text mode.creation
 
--- two hexadecimal digits a byte, in lower case. No bytes are a hyphen
+-- two hexadecimal digits for each byte, in lower case. A hyphen means no bytes
 abbrev pub data_text : List ℕ → List ℕ
 data_text [] = codes "-"
 data_text (b ∷ bytes) = encode_lower (b ∷ bytes)
@@ -59,11 +59,11 @@ data_text (b ∷ bytes) = encode_lower (b ∷ bytes)
 abbrev pub SpellsTarget : List ℕ → Target → Type 0
 SpellsTarget word target = IsWord word × IsTarget word target
 
--- a target is what its own text spells
+-- the target is what its own text spells
 abbrev pub IsSpelled : Target → Type 0
 IsSpelled target = SpellsTarget (target_text target) target
 
--- when a call has a spelling; whether it holds a word or bytes, which take memory to be read; its tokens
+-- when a call has a spelling; whether reading it takes memory, because it has a word or bytes; its tokens
 abbrev pub spelling : Call → Type 0 × Bool × List (List ℕ)
 spelling (Make kind target) = (IsSpelled target, true, codes "make" ∷ kind_text kind ∷ target_text target ∷ [])
 spelling (Open mode target) = (IsSpelled target, true, codes "open" ∷ mode_text mode ∷ target_text target ∷ [])
@@ -103,11 +103,11 @@ IsCall call = (spelling call).0
 abbrev pub call_tokens : Call → List (List ℕ)
 call_tokens call = (spelling call).2
 
--- a session counts its clients from 1
+-- a session numbers its clients from 1
 abbrev pub IsClient : ℕ → Type 0
 IsClient client = (1 ≤ client) × (client ≤ TREE_CLIENTS)
 
--- `@` (64) and the client's number. The first is not named
+-- `@` (64) and the client's number. The first client isn't named
 abbrev pub client_tokens : ℕ → List (List ℕ)
 client_tokens client = if client == 1 then [] else (64 ∷ decimal client) ∷ []
 
@@ -118,7 +118,7 @@ pub record SpellsCommand (line : List ℕ) (client : ℕ) (call : Call) : Type 0
   pub short : length line ≤ LINE_LIMIT
   pub text : line ≡ line_of (client_tokens client ++ call_tokens call)
 
--- When a reply has a spelling, and its tokens. What policy refuses is a denial
+-- When a reply has a spelling, and its tokens. A refusal by policy is a denial
 abbrev pub told : Reply → Type 0 × List (List ℕ)
 told Done = (⊤, codes "ok" ∷ [])
 told (Opened number) = (IsU64 number, codes "fd" ∷ decimal number ∷ [])

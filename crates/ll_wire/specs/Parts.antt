@@ -26,7 +26,7 @@ SpellsRights token rights = (rights.0 < 2 ^ 64) × (token ≡ access_text rights
 abbrev pub SpellsData : List ℕ → List ℕ → Type 0
 SpellsData token bytes = IsData bytes × (token ≡ data_text bytes)
 
--- a hexadecimal digit, with lower-case letters
+-- a hexadecimal digit, in lower case
 abbrev pub IsDigit : ℕ → Type 0
 IsDigit c = ((48 ≤ c) × (c ≤ 57)) ⊎ ((97 ≤ c) × (c ≤ 102))
 
@@ -34,15 +34,15 @@ IsDigit c = ((48 ≤ c) × (c ≤ 57)) ⊎ ((97 ≤ c) × (c ≤ 102))
 abbrev pub SpellsClient : List ℕ → ℕ → Type 0
 SpellsClient token client = IsClient client × (token ≡ 64 ∷ decimal client)
 
--- the token names a client that isn't the first
+-- the token names a client other than the first
 abbrev pub NamesClient : List ℕ → ℕ → Type 0
 NamesClient token client = (2 ≤ client) × (client ≤ TREE_CLIENTS) × (token ≡ 64 ∷ decimal client)
 
--- the tokens are one, which is the target's
+-- there is one token, the target's
 abbrev pub SpellsOneTarget : List (List ℕ) → Target → Type 0
 SpellsOneTarget tokens target = SpellsTarget (target_text target) target × (tokens ≡ target_text target ∷ [])
 
--- the tokens are two, the first target's and the second's
+-- there are two tokens, the first target's and the second's
 abbrev pub SpellsTwoTargets : List (List ℕ) → Target × Target → Type 0
 SpellsTwoTargets tokens targets =
     SpellsTarget (target_text targets.0) targets.0 × SpellsTarget (target_text targets.1) targets.1
@@ -59,11 +59,11 @@ ReadsCall tokens = ReadsBy (SpellsCall tokens) (λ call. holds_text call ≡ tru
 abbrev pub SpellsTokens : List (List ℕ) → ℕ → Call → Type 0
 SpellsTokens tokens client call = IsClient client × IsCall call × (tokens ≡ client_tokens client ++ call_tokens call)
 
--- the text is the names', a space before each
+-- the text is the names, with a space before each
 abbrev pub SpellsNames : List ℕ → List (List ℕ) → Type 0
 SpellsNames text names = AreListed names × (text ≡ flat_map (λ name. 32 ∷ name) names)
 
--- the tokens are one, which is the number's
+-- there is one token, the number's
 abbrev pub SpellsOneNumber : List (List ℕ) → ℕ → Type 0
 SpellsOneNumber tokens number = (number < 2 ^ 64) × (tokens ≡ decimal number ∷ [])
 
@@ -71,6 +71,6 @@ SpellsOneNumber tokens number = (number < 2 ^ 64) × (tokens ≡ decimal number 
 abbrev pub SpellsReplyTokens : List (List ℕ) → Reply → Type 0
 SpellsReplyTokens tokens reply = IsReply reply × (tokens ≡ reply_tokens reply)
 
--- what stands before the line feed spells the reply
+-- the part before the line feed spells the reply
 abbrev pub SpellsReplyBody : List ℕ → Reply → Type 0
 SpellsReplyBody body reply = IsReply reply × (body ≡ join_with_byte 32 (reply_tokens reply))

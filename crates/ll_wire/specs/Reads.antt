@@ -1,4 +1,4 @@
--- What reading a text answers. own
+-- What reading a text returns. own
 use Rattle.std.specs.Prelude.{◌≡◌, Bool, true, false, ◌⊎◌, Option, Some, None, Result, Ok, Err}
 use Rattle.ll_rights.specs.declared.errno.Errno.{Errno}
 use Rattle.ll_rights.specs.declared.errno.Errno.TheVariants.{NoMemory, BadLine}
@@ -7,7 +7,7 @@ use Rattle.ll_seq.specs.declared.reply.Reply.{Reply}
 use Rattle.ll_seq.specs.declared.reply.Reply.TheVariants.{Bytes, Listed}
 use Rattle.ll_wire.specs.Grammar.{spelling}
 
--- The value that is spelled; BadLine only where none is, and NoMemory only where one is that takes memory to be read
+-- The spelled value. BadLine only if the text spells none; NoMemory only if it spells one that takes memory to read
 abbrev pub ReadsBy : {V : Type 0} → (Spells Takes : V → Type 0) → Result V Errno → Type 0
 ReadsBy Spells Takes (Ok v) = Spells v
 ReadsBy {V} Spells Takes (Err e) =
@@ -20,7 +20,7 @@ Finds {V} Spells None = (v : V) → Spells v → ⊥
 abbrev pub holds_text : Call → Bool
 holds_text call = (spelling call).1
 
--- the reply tells names or bytes
+-- the reply has names or bytes
 abbrev pub tells_text : Reply → Bool
 tells_text (Bytes bytes) = true
 tells_text (Listed names) = true

@@ -1,4 +1,4 @@
--- The one spelling of each line of a schedule. own
+-- The only spelling of each line of a schedule. own
 use Rattle.std.specs.Prelude.{◌≡◌, ℕ, ◌≤◌, Bool, false, List, [], ◌∷◌, ◌++◌, Option, Some, None, IfSome, length, codes}
 use Rattle.std.specs.Prelude.{decimal, option_map, unwrap_or}
 use Rattle.ll_seq.specs.declared.call.Call.{Call}
@@ -28,12 +28,12 @@ client_in value = (form value).0
 abbrev pub call_in : ScheduleLine → Option Call
 call_in value = (form value).2
 
--- `@` (64) and the client's number, the first's too
+-- `@` (64) and the client's number, also for the first client
 abbrev pub name_tokens : Option ℕ → List (List ℕ)
 name_tokens None = []
 name_tokens (Some client) = (64 ∷ decimal client) ∷ []
 
--- The client's name, the word, and the call
+-- the client's name, the word, and the call
 abbrev pub line_tokens : ScheduleLine → List (List ℕ)
 line_tokens value =
     name_tokens (client_in value) ++ (form value).1 ∷ unwrap_or (option_map call_tokens (call_in value)) []
@@ -42,12 +42,12 @@ line_tokens value =
 abbrev pub IsScheduleLine : ScheduleLine → Type 0
 IsScheduleLine value = IfSome (client_in value) IsClient × IfSome (call_in value) IsCall
 
--- The line spells the value
+-- the line spells the value
 pub record SpellsScheduleLine (line : List ℕ) (value : ScheduleLine) : Type 0 where
   pub is_line : IsScheduleLine value
   pub short : length line ≤ LINE_LIMIT
   pub text : line ≡ line_of (line_tokens value)
 
--- its call holds a word or bytes. Every other line takes no memory to be read
+-- reading it takes memory, because its call has a word or bytes
 abbrev pub line_holds_text : ScheduleLine → Bool
 line_holds_text value = unwrap_or (option_map holds_text (call_in value)) false

@@ -8,7 +8,7 @@ use Rattle.ll_wire.specs.declared.schedule.ScheduleLine.{ScheduleLine}
 abbrev pub SpellsLineTokens : List (List ℕ) → ScheduleLine → Type 0
 SpellsLineTokens tokens value = IsScheduleLine value × (tokens ≡ line_tokens value)
 
--- the tokens are those that stand behind the client's name
+-- the tokens are those after the client's name
 abbrev pub SpellsBehind : ℕ → List (List ℕ) → ScheduleLine → Type 0
 SpellsBehind client tokens value =
     (client_in value ≡ Some client) × IfSome (call_in value) IsCall

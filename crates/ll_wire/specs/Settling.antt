@@ -1,11 +1,11 @@
--- Answers that are kept. Cited by contracts between crates alone. own
+-- Answers that stay true. Cited by contracts between crates alone. own
 use Rattle.std.specs.Prelude.{◌≡◌, ℕ, Bool, List}
 
--- What was answered so that it led to s, may as well lead to t
+-- an answer that led to s may as well lead to t
 abbrev pub TellsStill : {S : Type 0} → (S → List ℕ → List ℕ → S → Type 0) → (s t : S) → Type 0
 TellsStill {S} Tells s t = (a : S) (piece line : List ℕ) → Tells a piece line s → Tells a piece line t
 
--- Nothing was answered between s and t: at most, what was answered before is kept
+-- nothing was answered between s and t: at most, earlier answers are kept
 abbrev pub Settles : {S : Type 0} → (Tells : S → List ℕ → List ℕ → S → Type 0) → (Goes : S → S → Type 0)
     → (used : S → ℕ) → (over : S → Bool) → (s t : S) → Type 0
 Settles Tells Goes used over s t =

@@ -28,11 +28,11 @@ pub trait Answers {
     /// Whether it answers no further line.
     ghost over: { Self → Bool };
 
-    /// All its answers so far have been kept, as far as they are kept at all: the replies may be written.
+    /// All its answers so far have been kept, if they are kept at all: the replies may be written.
     ghost kept: { Self → Type 0 };
 
-    /// Returns the line that answers this one, with its line feed. Errors: memory for the answer ran out; the line has
-    /// been answered all the same.
+    /// Returns the line that answers this one, with its line feed. Errors: memory for the answer ran out; the line
+    /// counts as answered.
     fn answer(&mut self, line: &Line) -> Result<String, AllocError>
         requires room { used self.old < 2 ^ 63 }
         requires going { over self.old ≡ false }
@@ -63,7 +63,7 @@ pub trait Answers {
 
 /// Reads lines and answers each, to the end of the input or to the final line. Writes the answers to everything read so
 /// far before each further read, and the rest at the end. Doesn't answer lines after the final one, even if one read
-/// returned them together.
+/// returned them together. Errors: the first fault; what was written is then a prefix of the answers.
 pub fn answer_lines<E: Ends, A: Answers>(
     alloc: Global,
     ends: &mut E,

@@ -319,7 +319,7 @@ impl Exchange {
     }
 
     /// Reads the next line into `line`. Only the last may lack its line feed. Returns whether there was one. Before
-    /// each read it keeps what was answered and writes the waiting replies.
+    /// each read it keeps what was answered and writes the waiting replies. Errors: the first fault.
     pub fn read_line<E: Ends, A: Answers>(
         &mut self,
         ends: &mut E,
@@ -377,7 +377,8 @@ impl Exchange {
         }
     }
 
-    /// Answers a line. The answer is written before the next read, after what it answers is kept.
+    /// Answers a line. The answer is written before the next read, after what it answers is kept. Errors: the first
+    /// fault.
     pub fn reply<E: Ends, A: Answers>(
         &mut self,
         ends: &mut E,
@@ -405,7 +406,8 @@ impl Exchange {
         write_through(ends, answers, line)
     }
 
-    /// Ends the exchange after the last line: keeps what was answered, and writes the waiting replies.
+    /// Ends the exchange after the last line: keeps what was answered, and writes the waiting replies. Errors: the
+    /// output failed.
     pub fn end<E: Ends, A: Answers>(
         &mut self,
         ends: &mut E,

@@ -111,7 +111,7 @@ fn refusal_words(args: &[&str]) -> Option<RefusalWords>
     }
 }
 
-// What is given of a denial of this cause behind the word `layer`.
+// Parses what follows the word `layer` in a denial with this cause.
 fn layer_words(cause: Cause, args: &[&str]) -> Option<DenialWords>
     ensures { Finds (SpellsDenialWords (errno_text (cause_errno cause) ∷ codes "layer" ∷ map (λ t. t.now) args.now))
         result }

@@ -9,7 +9,7 @@ ghost use Rattle.ll_wire.specs.declared.fault.SessionFault.{SessionFault};
 use crate::fault::SessionFault;
 use crate::{Ends, write_out};
 
-/// Writes the whole line. Doesn't retry after a failure.
+/// Writes the whole line. Errors: the output failed, and a prefix of the line may be written. Doesn't retry.
 pub fn write_line<E: Ends>(ends: &mut E, line: &str) -> Result<(), SessionFault>
     requires { IsWhole (E.devices ends.old) }
     ensures ok { OnOk result (Appends (E.devices ends.old).contents (E.devices ends.new).contents line.now) }

@@ -7,7 +7,7 @@ ghost use Rattle.ll_wire.specs.Devices.{Took, TookNone};
 
 use crate::ends::{Broken, Ends};
 
-/// Writes all the bytes. Doesn't retry after a failure.
+/// Writes all the bytes. Errors: the output failed, and a prefix of them may be written. Doesn't retry.
 pub fn write_out<E: Ends>(ends: &mut E, bytes: &[u8]) -> Result<(), Broken>
     requires { (E.devices ends.old).is_output_broken ≡ false }
     ensures ok { OnOk result (Appends (E.devices ends.old).contents (E.devices ends.new).contents bytes.now) }

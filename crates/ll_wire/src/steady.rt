@@ -8,7 +8,7 @@ ghost use Rattle.std.specs.IoError.{error_kind};
 use std::io;
 use std::io::{Error, ErrorKind, Read, Write};
 
-/// Reads some bytes. Returns their number, 0 at the end. Retries if a signal interrupts.
+/// Reads some bytes. Returns their number, 0 at the end. Retries if a signal interrupts. Errors: the reader's.
 pub fn read_steadily<R: Read>(reader: &mut R, buf: &mut [u8]) -> io::Result<usize>
     ensures bound { ReadsAtMost result buf.new }
     ensures bytes { ReadConsumes (R.remaining reader.old) (R.remaining reader.new) result buf.new }
@@ -24,7 +24,7 @@ pub fn read_steadily<R: Read>(reader: &mut R, buf: &mut [u8]) -> io::Result<usiz
     Err(Error::from(ErrorKind::TimedOut))
 }
 
-/// Writes some of the bytes. Returns their number. Retries if a signal interrupts.
+/// Writes some of the bytes. Returns their number. Retries if a signal interrupts. Errors: the writer's.
 pub fn write_steadily<W: Write>(writer: &mut W, bytes: &[u8]) -> io::Result<usize>
     ensures bound { WritesAtMost result bytes.now }
     ensures bytes { WriteAppends (W.contents writer.old) (W.contents writer.new) result bytes.now }
