@@ -9,7 +9,7 @@ use Rattle.ll_program.specs.declared.failure.Failure.{Failure}
 use Rattle.ll_check.specs.Ends.{IsCheckedUnder, IsPolicyText}
 use Rattle.ll_commands.specs.Export.{IsExport}
 
--- the check of the files that the words name, by the policy and under the profile that is exported
+-- the check of the files that the words name, by the policy and under the exported profile
 abbrev pub check_of : ExportOrder → CheckOrder
 check_of order =
     record {
@@ -22,7 +22,7 @@ check_of order =
       verbose = false;
     }
 
--- a policy of one text is checked and exported: where the checks pass, and else it ends as they do
+-- if the checks pass, the same text of the policy is exported; otherwise it ends as the checks do
 abbrev pub EndsChecked : (texts : Option (List ℕ) → Option (List ℕ)) → ExportOrder → Result Conclusion Failure → Type 0
 EndsChecked texts order (Ok Done) =
     (policy written : List ℕ) × IsPolicyText texts (Some order.policy) policy
@@ -34,7 +34,7 @@ EndsChecked texts order (Ok (Checked end)) =
     × IsCheckedUnder texts (check_of order) policy end × (end ≢ Passed)
 EndsChecked texts order (Err failure) = ⊤
 
--- an export that is done has a text, of the policy that is named
+-- an export that ends well wrote a text, of the policy that is named
 abbrev pub IsExported : (texts : Option (List ℕ) → Option (List ℕ)) → ExportOrder → Result Conclusion Failure → Type 0
 IsExported texts order result = result ≡ Ok Done → (policy written : List ℕ)
     × IsPolicyText texts (Some order.policy) policy × IsExport order policy written

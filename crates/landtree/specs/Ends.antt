@@ -1,4 +1,4 @@
--- How the program ends that is asked for this, where the files have these texts. own
+-- How the program ends with this order, if the files have these texts. own
 use Rattle.std.specs.Prelude.{◌≡◌, ◌⊎◌, ℕ, Bool, true, false, List, Option, Result, Err}
 use Rattle.ll_program.specs.Options.{Order, fits, fits_check, fits_export, fits_schedule, fits_serve}
 use Rattle.ll_program.specs.Options.{fits_why, is_checked, lessons_by, to_audit, to_check, to_export}

@@ -1,4 +1,4 @@
--- How `learn` ends, where the files have these texts. own
+-- How `learn` ends, if the files have these texts. own
 use Rattle.std.specs.Prelude.{◌≡◌, ◌⊎◌, ℕ, ◌==◌, ◌&&◌, Bool, true, false, not, nat_le, List, Option, Some, None}
 use Rattle.std.specs.Prelude.{Result, Ok, Err, IfSome}
 use Rattle.std.specs.List.{AllZip, list_all}
@@ -14,17 +14,17 @@ use Rattle.ll_check.specs.Lessons.{EndsLessons}
 use Rattle.ll_commands.specs.Export.{ended_by}
 use Rattle.ll_commands.specs.Learn.{IsLearning}
 
--- what is concluded of lessons: where all pass, a profile was written
+-- the conclusion from lessons: if all pass, a profile was written
 abbrev pub concluded : Result Checked Failure → Result Conclusion Failure
 concluded (Ok end) = Ok (ended_by end)
 concluded (Err failure) = Err failure
 
--- a control character (0 to 31, 127) could end a comment
+-- not a control character (0 to 31, 127), which could end a comment
 abbrev pub is_of_line : ℕ → Bool
 is_of_line byte = nat_le 32 byte && not (byte == 127)
 
--- A name of a file isn't one line; or one of the files that are named can't be read; or their lessons end so, by the
--- policy that is named
+-- A file's name isn't one line; or one of the named files can't be read; or their lessons end like this, by the policy
+-- that is named
 abbrev pub EndsByChecks : (texts : Option (List ℕ) → Option (List ℕ)) → LearnOrder → Result Conclusion Failure → Type 0
 EndsByChecks texts order result =
     ((result ≡ Err CommandLine) × (list_all (λ name. list_all is_of_line name) order.files ≡ false))
@@ -34,7 +34,7 @@ EndsByChecks texts order result =
     × EndsLessons order policy sources out out' end × (result ≡ concluded end)
     × (list_all (λ name. list_all is_of_line name) order.files ≡ true))
 
--- so it ends with the history of this name
+-- how it ends with the history of this name
 abbrev pub EndsByHistory : (texts : Option (List ℕ) → Option (List ℕ)) → LearnOrder → (history : List ℕ)
     → Result Conclusion Failure → Type 0
 EndsByHistory texts order history result =

@@ -1,4 +1,4 @@
-//! `check` and `export`, over the files that their words name.
+//! `check` and `export`, with the files that their words name.
 
 ghost use Rattle.std.specs.Prelude.{◌≡◌, ◌⊎◌, ℕ, true, false, List, Option, None, Some, Err, IfErr, IfOk, IfSome, OnOk};
 ghost use Rattle.std.specs.Prelude.{map, option_map};
@@ -23,7 +23,7 @@ use ll_program::{
 use ll_rights::limits::TREE_NODES;
 use std::sync::Wait;
 
-// The whole text of this file.
+// Returns the whole text of this file.
 fn text_of<S: Sources>(
     rt: &HostRuntime,
     sources: &S,
@@ -41,7 +41,7 @@ fn text_of<S: Sources>(
     text
 }
 
-/// The text of the policy that is named, if one is.
+/// Returns the text of the named policy, if one is named.
 pub(crate) fn policy_text<S: Sources>(
     rt: &HostRuntime,
     sources: &S,
@@ -58,7 +58,7 @@ pub(crate) fn policy_text<S: Sources>(
     }
 }
 
-// The file of checks of this name.
+// Reads the file of checks with this name.
 fn named_text<'a, S: Sources>(
     rt: &HostRuntime,
     sources: &S,
@@ -72,7 +72,7 @@ fn named_text<'a, S: Sources>(
     Ok(NamedText { name, text })
 }
 
-/// The files of checks of these names.
+/// Reads the files of checks with these names.
 pub(crate) fn texts_of<'a, S: Sources>(
     rt: &HostRuntime,
     sources: &S,
@@ -94,7 +94,7 @@ pub(crate) fn texts_of<'a, S: Sources>(
     Ok(files)
 }
 
-// Checks the files that are wanted.
+// Checks the given files.
 fn check_files<S: Sources + Wait>(
     rt: &HostRuntime,
     sources: &S,
@@ -133,7 +133,7 @@ fn check_files<S: Sources + Wait>(
     checked
 }
 
-// `check`.
+// Runs `check`.
 pub fn check_options<S: Sources + Wait>(
     rt: &HostRuntime,
     sources: &S,
@@ -154,7 +154,7 @@ pub fn check_options<S: Sources + Wait>(
     }
 }
 
-// Writes the text that a policy's profile is exported as.
+// Writes the text of the exported profile.
 fn export_file<S: Sources>(
     rt: &HostRuntime,
     sources: &S,
@@ -183,7 +183,7 @@ fn export_file<S: Sources>(
     told
 }
 
-// Checks that a profile passes these files, by the policy of this text. What `check` prints goes to standard error.
+// Checks that a profile passes these files, by the policy with this text. What `check` prints goes to standard error.
 fn check_profile<S: Sources + Wait>(
     rt: &HostRuntime,
     sources: &S,
@@ -221,7 +221,7 @@ fn check_profile<S: Sources + Wait>(
     )
 }
 
-// Writes the text that the policy of this text is exported as, if the profile passes the files of checks.
+// Writes the text of the exported profile, by the policy with this text, if the profile passes the files of checks.
 fn export_policy<S: Sources + Wait>(
     rt: &HostRuntime,
     sources: &S,
@@ -238,8 +238,8 @@ fn export_policy<S: Sources + Wait>(
     export_checked(rt.alloc(), checked, options, &mut text, &mut rt.stdout())
 }
 
-// Writes the text that a policy's profile is exported as, if the profile passes the files of checks. The policy is read
-// once, so what is exported is what was checked.
+// Writes the text of the exported profile, if the profile passes the files of checks. The policy is read once, so what
+// is exported is what was checked.
 fn export_profile<S: Sources + Wait>(
     rt: &HostRuntime,
     sources: &S,
@@ -257,7 +257,7 @@ fn export_profile<S: Sources + Wait>(
     ended
 }
 
-// `export`.
+// Runs `export`.
 pub fn export_options<S: Sources + Wait>(
     rt: &HostRuntime,
     sources: &S,

@@ -1,4 +1,4 @@
-//! What each command does, over the files that its words name.
+//! What each command does, with the files that its words name.
 
 ghost use Rattle.std.specs.Prelude.{◌≡◌, ℕ, true, false, List, Option, None, Some, Err, IfErr, IfOk, IfSome};
 ghost use Rattle.std.specs.Prelude.{option_map};
@@ -31,12 +31,12 @@ use std::io::{IsTerminal, Read, Write};
 use std::sync::Wait;
 use std::thread::Threads;
 
-// The file of this name for a history, if one is named.
+// Returns the file with this name for a history, if one is named.
 fn history_file<'a>(rt: &'a HostRuntime, name: Option<&'a str>, is_telling: bool) -> NewFile<'a> {
     NewFile::new(rt, name.unwrap_or(""), "history", is_telling)
 }
 
-// What a command writes to while it runs.
+// The program's output, which a command writes while it runs.
 const OUTPUT: Purpose<'static> = Purpose {
     what: "output",
     device: Device::StandardOutput,
@@ -69,7 +69,7 @@ fn run_over<H: Wait, P: Read, R: Read, W: Write, F: Destination>(
     run(rt, alloc, options, policy, script, out, file)
 }
 
-// Sets up the run that is wanted, runs the script, and saves the history, if a file is named.
+// Sets up the run, runs the script, and saves the history, if a file is named.
 fn run_script<S: Sources + Wait>(
     rt: &HostRuntime,
     sources: &S,
@@ -104,7 +104,7 @@ fn run_script<S: Sources + Wait>(
     ended
 }
 
-// `run`.
+// Runs `run`.
 pub fn run_options<S: Sources + Wait>(
     rt: &HostRuntime,
     sources: &S,
@@ -130,7 +130,7 @@ pub fn run_options<S: Sources + Wait>(
     run_script(rt, sources, options, hints)
 }
 
-// Judges the history in the file of this name.
+// Judges the history in the file with this name.
 fn judge_file<S: Sources>(
     rt: &HostRuntime,
     sources: &S,
@@ -153,7 +153,7 @@ fn judge_file<S: Sources>(
     judged
 }
 
-// `audit`, of the file of this name.
+// Runs `audit` on the file with this name.
 pub fn audit_file<S: Sources>(
     rt: &HostRuntime,
     sources: &S,
@@ -166,14 +166,14 @@ pub fn audit_file<S: Sources>(
     Ok(Conclusion::Judged(verdict))
 }
 
-// Tells why steps of a schedule couldn't be made, and which walks are under way at its end.
+// Adds hints on why steps of a schedule couldn't be made, and which walks are under way at its end.
 fn hint_at_steps(rt: &HostRuntime, options: &ScheduleOptions, text: &[u8], hints: &mut Hints) {
     if let Some(reasons) = explain_schedule(rt.alloc(), setup_by(options), text) {
         hints.add(&reasons);
     }
 }
 
-// Does what a schedule asks for, and tells of it.
+// Runs a schedule, and adds hints.
 fn perform_and_tell<S: Sources>(
     rt: &HostRuntime,
     sources: &S,
@@ -193,7 +193,7 @@ fn perform_and_tell<S: Sources>(
     ended
 }
 
-// Does what a schedule asks for, which is read whole first, and draws it into the file of this name.
+// Reads a schedule whole, runs it, and draws it into the file with this name.
 fn perform_and_draw<R: Read>(
     rt: &HostRuntime,
     options: &ScheduleOptions,
@@ -216,7 +216,7 @@ fn perform_and_draw<R: Read>(
     drawn
 }
 
-// Does what a schedule asks for, and draws it if a file is named.
+// Runs a schedule, and draws it if a file is named.
 fn perform_file<S: Sources>(
     rt: &HostRuntime,
     sources: &S,
@@ -234,7 +234,7 @@ fn perform_file<S: Sources>(
     ended
 }
 
-// `schedule`.
+// Runs `schedule`.
 pub fn schedule_options<S: Sources>(
     rt: &HostRuntime,
     sources: &S,
@@ -265,7 +265,7 @@ pub fn schedule_options<S: Sources>(
     Ok(Conclusion::Done)
 }
 
-// Tells the rights of a policy's profile.
+// Writes the rights of a policy's profile.
 fn tell_file<S: Sources>(
     rt: &HostRuntime,
     sources: &S,
@@ -291,7 +291,7 @@ fn tell_file<S: Sources>(
     }
 }
 
-// `rights`.
+// Runs `rights`.
 pub fn rights_options<S: Sources>(
     rt: &HostRuntime,
     sources: &S,
@@ -307,7 +307,7 @@ pub fn rights_options<S: Sources>(
     ended
 }
 
-// The file that is asked about: a history's, or a policy's. Standard input has no name.
+// Returns the file that is asked about: a history's, or a policy's. None for standard input.
 fn file_asked<'a>(options: &WhyOptions<'a>) -> Option<&'a str>
     ensures { option_map (λ name. name.now) result ≡ file_asked (asked_by (why_in options.now)) }
 {
@@ -318,7 +318,7 @@ fn file_asked<'a>(options: &WhyOptions<'a>) -> Option<&'a str>
     }
 }
 
-// `why`.
+// Runs `why`.
 pub fn why_options<S: Sources>(
     rt: &HostRuntime,
     sources: &S,
@@ -384,7 +384,7 @@ fn serve_port<S: Sources + Threads + Wait + Sync, B: Binds>(
     ended
 }
 
-// `serve`.
+// Runs `serve`.
 pub fn serve_options<S: Sources + Threads + Wait + Sync, B: Binds>(
     rt: &HostRuntime,
     sources: &S,

@@ -3,8 +3,8 @@
 ghost use Rattle.std.specs.Prelude.{◌≤◌};
 ghost use Rattle.ll_rights.specs.declared.limits.TheConstants.{HISTORY_ENTRIES, TREE_NODES};
 
-/// A policy that a command has read, and the tree that is opened by it: for clients of this profile, if one is wanted,
-/// in which so many nodes may live, and whose history may have so many entries.
+/// A policy that a command has read, and how its tree is opened: for clients of this profile, if one is asked for, with
+/// these limits of live nodes and history entries.
 #[derive(Drop)]
 pub struct Given<'a> {
     /// The file's name, and what was read of it.
@@ -19,7 +19,7 @@ pub struct Given<'a> {
 }
 
 impl<'a> Given<'a> {
-    /// Returns the policy of this name and text, if one is named and its text is kept.
+    /// Returns the policy with this name and text, if one is named and its text is kept.
     pub fn new(
         name: Option<&'a str>,
         text: Option<&'a [u8]>,

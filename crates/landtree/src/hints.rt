@@ -1,4 +1,4 @@
-//! The lines behind a fault line.
+//! The lines after a fault line.
 
 ghost use Rattle.std.specs.Prelude.{IfOk, string_bytes};
 ghost use Rattle.std.specs.List.{All};
@@ -19,10 +19,10 @@ use std::alloc::{AllocError, Global};
 use std::fmt::Display;
 use std::io::Write;
 
-/// Of so many tests that fail by a denial it is told why. For each, the entries before it are made again.
+/// The most failed tests whose denials are explained. For each, the entries before it are made again.
 const DENIALS: usize = 20;
 
-// The line of this number, from 1, without its line feed; no bytes where there is none.
+// Returns the line with this number, from 1, without its line feed; no bytes if there is none.
 fn line_at(text: &[u8], number: usize) -> &[u8] {
     let mut at: usize = 0;
     for line in text.split(|b| *b == b'\n') {
@@ -34,7 +34,7 @@ fn line_at(text: &[u8], number: usize) -> &[u8] {
     &[]
 }
 
-// A line of hints, two spaces further in, as a terminal may get it.
+// Returns a line of hints, indented by two spaces, safe for a terminal.
 fn line_of(alloc: Global, line: &[u8]) -> Result<String, AllocError>
     ensures { IfOk result (λ text. All IsTold (string_bytes text)) }
 {
@@ -45,7 +45,7 @@ fn line_of(alloc: Global, line: &[u8]) -> Result<String, AllocError>
     Ok(text)
 }
 
-// This line comes last.
+// Appends this line.
 fn push_line(alloc: Global, text: &mut String, line: &[u8]) -> Result<(), AllocError>
     requires { All IsTold (string_bytes text.old) }
     ensures { All IsTold (string_bytes text.new) }
@@ -54,27 +54,27 @@ fn push_line(alloc: Global, text: &mut String, line: &[u8]) -> Result<(), AllocE
     text.push_str(line.as_str())
 }
 
-// The policy of this text, if it has no fault and there is memory for it.
+// Returns the policy with this text, if it has no fault and there is memory for it.
 fn policy_of(alloc: Global, text: &[u8]) -> Option<Policy> {
     let text = str::from_utf8(text).ok()?;
     Policy::from_text(alloc, text).ok()
 }
 
-/// What is told behind the fault line, each line two spaces further in. Where memory is wanted for a line, it is left
-/// out. No contract says what is told: it helps whoever typed the command. Whatever it is, a terminal gets printed
-/// characters of ASCII and line feeds.
+/// The lines after the fault line, each indented by two spaces. If memory runs out for a line, it is left out. No
+/// contract says what they say: they help whoever typed the command. A terminal gets only printable ASCII and line
+/// feeds.
 #[derive(Drop)]
 pub struct Hints {
     alloc: Global,
     is_wanted: bool,
     text: String,
-    /// How many tests were told of that fail by a denial.
+    /// How many denied tests were explained.
     denials: usize,
     ghost only_told: { All IsTold (string_bytes text) },
 }
 
 impl Hints {
-    /// None yet.
+    /// Returns no hints.
     pub fn new(alloc: Global) -> Hints {
         Hints {
             alloc,
@@ -84,22 +84,22 @@ impl Hints {
         }
     }
 
-    /// They are to be told, or not.
+    /// Sets whether hints are wanted.
     pub fn want(&mut self, is_wanted: bool) {
         self.is_wanted = is_wanted;
     }
 
-    /// Whether they are to be told. What takes long to find is looked for only then.
+    /// Reports whether hints are wanted. What takes long to find is looked for only then.
     pub fn are_wanted(&self) -> bool {
         self.is_wanted
     }
 
-    // Whether they are to be told, and none is yet.
+    // Reports whether hints are wanted, and there is none yet.
     fn are_missing(&self) -> bool {
         self.is_wanted && self.text.is_empty()
     }
 
-    // These lines come last.
+    // Appends these lines.
     fn push(&mut self, told: &str) -> Result<(), AllocError> {
         for line in told.lines() {
             if !line.is_empty() {
@@ -109,7 +109,7 @@ impl Hints {
         Ok(())
     }
 
-    // So do these, of which only the two ends are shown where one is long.
+    // Appends these lines, and only the two ends of a long one.
     fn push_shown(&mut self, told: &str) -> Result<(), AllocError> {
         for line in told.lines() {
             let line = shown(self.alloc, line.as_bytes())?;
@@ -118,7 +118,7 @@ impl Hints {
         Ok(())
     }
 
-    // So do these, of which the first stands behind this name.
+    // Appends these lines, the first after this name.
     fn push_named(&mut self, name: &str, told: &str) -> Result<(), AllocError> {
         let (first, rest) = told.split_once('\n').unwrap_or((told, ""));
         let first = shown(self.alloc, first.as_bytes())?;
@@ -127,21 +127,21 @@ impl Hints {
         self.push_shown(rest)
     }
 
-    /// What this says, line by line.
+    /// Adds what this displays, line by line.
     pub fn add<T: Display>(&mut self, told: &T) {
         if let Ok(told) = format!(in self.alloc; "{told}") {
             let _ = self.push_shown(told.as_str());
         }
     }
 
-    /// That these words don't go together.
+    /// Adds that these words don't go together.
     pub fn of_misfit(&mut self, misfit: Option<Misfit<'_>>) {
         if let Some(misfit) = misfit {
             self.add(&misfit);
         }
     }
 
-    /// Which file couldn't be read, what for, and why.
+    /// Adds which file couldn't be read, what for, and why.
     pub fn of_input<S: Sources>(&mut self, what: &str, input: &Late<'_, S>) {
         let Some(error) = input.trouble() else {
             return;
@@ -155,7 +155,7 @@ impl Hints {
         }
     }
 
-    /// Which file couldn't be written, what for, and why; and where the record of it stays.
+    /// Adds which file couldn't be written, what for, and why; and where its record stays.
     pub fn of_output(&mut self, output: &NewFile<'_>) {
         if let Some(path) = output.record_path()
             && let Ok(told) = format!(in self.alloc; "what was answered stays in {path}")
@@ -171,7 +171,7 @@ impl Hints {
         }
     }
 
-    // Where the policy's first fault is, and what would be right there.
+    // Adds where the policy's first fault is, and what would be right there.
     fn of_policy(&mut self, given: &Given<'_>) {
         let Ok(text) = str::from_utf8(given.text) else {
             self.add(&"the policy's bytes are no UTF-8");
@@ -182,7 +182,7 @@ impl Hints {
         }
     }
 
-    // That the policy hasn't the profile that is wanted, if it hasn't.
+    // Adds that the policy doesn't have the profile asked for, if so.
     fn of_profile(&mut self, given: &Given<'_>) {
         if let Some(profile) = given.profile
             && let Some(policy) = policy_of(self.alloc, given.text)
@@ -195,8 +195,8 @@ impl Hints {
         }
     }
 
-    /// Which call is refused where a tree is opened by this policy, and the reply to it, if one is: one that makes the
-    /// policy's nodes, or one of the profile that is wanted.
+    /// Adds which call is refused when a tree is opened with this policy, and its reply, if one is: one that creates
+    /// the policy's nodes, or one of the profile asked for.
     pub fn of_opening(&mut self, given: &Given<'_>) {
         if self.are_missing()
             && let Some(policy) = policy_of(self.alloc, given.text)
@@ -206,7 +206,7 @@ impl Hints {
         }
     }
 
-    /// Why a command has failed, where this policy is the reason.
+    /// Adds why a command failed, if this policy is the reason.
     pub fn of_failure(&mut self, failure: &Failure, given: &Given<'_>) {
         if !self.are_missing() {
             return;
@@ -219,7 +219,7 @@ impl Hints {
         }
     }
 
-    /// Which layer of the profile that is wanted can't be exported, and why, if one can't be.
+    /// Adds which layer of the profile can't be exported, and why, if any.
     pub fn of_flaw(&mut self, given: &Given<'_>) {
         if self.are_missing()
             && let Some(profile) = given.profile
@@ -230,7 +230,7 @@ impl Hints {
         }
     }
 
-    // The line of this number, from 1, of the file's text.
+    // Adds the line with this number, from 1, of the file's text.
     fn of_line(&mut self, name: &str, text: &[u8], number: usize) {
         if let Ok(line) = shown(self.alloc, line_at(text, number))
             && let Ok(told) = format!(in self.alloc; "{name}:{number}: {line}")
@@ -239,7 +239,8 @@ impl Hints {
         }
     }
 
-    // Of the line of this number, from 1, which spells no command: where in it something else was expected, and what.
+    // Adds where in the line with this number, from 1, something else was expected, and what. The line spells no
+    // command.
     fn of_command(&mut self, of: LinesOf, name: &str, text: &[u8], number: usize) {
         let Ok(
             Some(
@@ -264,8 +265,8 @@ impl Hints {
         }
     }
 
-    /// Of a command that is a word of the command line, if it spells none: where in it something else was expected, and
-    /// what.
+    /// Adds, for a command given as a word of the command line, where something else was expected, and what, if it
+    /// spells none.
     pub fn of_word(&mut self, command: &str) {
         let Ok(line) = format!(in self.alloc; "{command}\n") else {
             return;
@@ -275,15 +276,15 @@ impl Hints {
         }
     }
 
-    /// Of the script's line of this number, from 1, which spells no command: where in it something else was expected,
-    /// and what.
+    /// Adds where in the script's line with this number, from 1, something else was expected, and what. The line spells
+    /// no command.
     pub fn of_bad_line(&mut self, script: &str, text: &[u8], number: u64) {
         if self.are_missing() {
             self.of_command(LinesOf::Script, script, text, number as usize);
         }
     }
 
-    // Why a history's entry of this number may not stand, and how to ask for the rest.
+    // Adds why a history's entry with this number isn't legal, and how to ask for the rest.
     fn of_entry(&mut self, name: &str, text: &[u8], entry: usize) {
         if let Ok(saved) = Saved::read(self.alloc, text)
             && let Ok(Some(line)) = why_not(
@@ -300,7 +301,7 @@ impl Hints {
         }
     }
 
-    /// Why a history isn't legal, where it is judged so: the line that is of no form, or the entry that may not stand.
+    /// Adds why a history isn't legal, after such a verdict: the malformed line, or the illegal entry.
     pub fn of_verdict(&mut self, name: &str, text: &[u8], verdict: Verdict) {
         if !self.are_missing() {
             return;
@@ -308,7 +309,7 @@ impl Hints {
         match verdict {
             Verdict::Legal(_) => {}
             Verdict::Illegal(entry) => {
-                // The header stands before the entries.
+                // The header comes before the entries.
                 self.of_line(name, text, entry.saturating_add(1));
                 self.of_entry(name, text, entry);
             }
@@ -316,14 +317,14 @@ impl Hints {
         }
     }
 
-    /// That a history ends before its entry of this number.
+    /// Adds that a history has no entry with this number.
     pub fn of_missing_entry(&mut self, name: &str, entry: u64) {
         if let Ok(told) = format!(in self.alloc; "the history {name} has no entry {entry}") {
             let _ = self.push(told.as_str());
         }
     }
 
-    /// That no stream can come to this port of this machine.
+    /// Adds that no stream can come to this port of this machine.
     pub fn of_port(&mut self, port: u16) {
         let told = format!(in self.alloc;
             "cannot listen at port {port} of 127.0.0.1: another program does, or this one may not"
@@ -333,7 +334,7 @@ impl Hints {
         }
     }
 
-    /// Writes them, where they are wanted.
+    /// Writes the hints, if they are wanted.
     pub fn tell<W: Write>(&self, err: &mut W) {
         if self.is_wanted {
             let _ = write_whole(err, self.text.as_str());
@@ -346,7 +347,7 @@ impl Notes for Hints {
         self.is_wanted && self.denials < DENIALS
     }
 
-    // Where the test stands, and why its call is denied.
+    // Adds where the test is, and why its call is denied.
     fn of_denied(&mut self, header: &Header, test: &DeniedTest<'_>) {
         if !self.is_wanted || self.denials >= DENIALS {
             return;

@@ -1,4 +1,4 @@
-//! `learn`: a profile of what files of checks ask for, or of what a saved history did.
+//! Runs `learn`: a profile of what files of checks need, or of what a saved history did.
 
 ghost use Rattle.std.specs.Prelude.{◌≡◌, ℕ, List, Option, IfSome, map};
 ghost use Rattle.std.specs.List.{list_all};
@@ -19,28 +19,28 @@ use std::alloc::Global;
 use std::io::{Read, Write};
 use std::sync::Wait;
 
-// Whether the byte is a character of a line, or a part of one.
+// Reports whether the byte is in a character of a line.
 fn is_of_line(byte: u8) -> bool
     ensures { result ≡ is_of_line byte }
 {
     byte >= 32 && byte != 127
 }
 
-// Whether the name, which stands in comments, is one line.
+// Reports whether the name, which comments contain, is one line.
 fn is_line(name: &str) -> bool
     ensures { result ≡ list_all is_of_line name.now }
 {
     name.as_bytes().iter().all(|byte| is_of_line(*byte))
 }
 
-// Whether each name is.
+// Reports whether each name is one line.
 fn are_lines(names: &[&str]) -> bool
     ensures { result ≡ list_all (λ name. list_all is_of_line name.now) names.now }
 {
     names.iter().all(|name| is_line(name))
 }
 
-// What is concluded of lessons that end so.
+// Returns the conclusion from lessons with this result.
 fn ended_by(end: Checked) -> Conclusion
     ensures { result ≡ ended_by end }
 {
@@ -51,7 +51,7 @@ fn ended_by(end: Checked) -> Conclusion
     }
 }
 
-// Learns from files of checks over devices of any kind, of which no more is told than what they are.
+// Learns from files of checks, over devices of any kind.
 fn learn_over<R: Wait, W: Write, E: Write, N: Notes>(
     rt: &R,
     alloc: Global,
@@ -66,7 +66,7 @@ fn learn_over<R: Wait, W: Write, E: Write, N: Notes>(
     learn_files(rt, alloc, input, out, err, notes)
 }
 
-// The same, from the saved history of this name.
+// Learns from the saved history with this name, over devices of any kind.
 fn learn_from<R: Read, W: Write, E: Write>(
     alloc: Global,
     options: &LearnOptions,
@@ -129,7 +129,7 @@ fn learn_checks<S: Sources + Wait>(
     }
 }
 
-// Learns from the saved history of this name.
+// Learns from the saved history with this name.
 fn learn_saved<S: Sources>(
     rt: &HostRuntime,
     sources: &S,
@@ -152,7 +152,7 @@ fn learn_saved<S: Sources>(
     ended
 }
 
-/// `learn`.
+/// Runs `learn`.
 pub fn learn_options<S: Sources + Wait>(
     rt: &HostRuntime,
     sources: &S,

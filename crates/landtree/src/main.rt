@@ -1,5 +1,5 @@
-//! Landtree, the program: runs scripts of command lines over a tree in memory, audits histories, makes schedules, tells
-//! rights, tells why calls are denied, and checks what a tree answers.
+//! Landtree, the program: runs scripts of command lines on a tree in memory, audits histories, makes schedules, lists
+//! rights, explains denials, and checks what a tree answers.
 #![tactic(auto)]
 
 mod checks;
@@ -44,7 +44,7 @@ fn words_of(rt: &HostRuntime, hints: &mut Hints) -> Result<Vec<String>, Failure>
     }
 }
 
-// Where the words ask for no run: clap's help and version are texts to print.
+// Prints clap's help or version, or returns the failure that clap found.
 fn told(rt: &HostRuntime, error: &clap::Error, hints: &mut Hints) -> Result<Conclusion, Failure>
     ensures failure { IfSome (failure_by (kind_of error.now)) (λ failure. result ≡ Err failure) }
     ensures text { IfNone (failure_by (kind_of error.now)) (IfErr result (λ failure. failure ≡ Failure.Output)) }
@@ -61,7 +61,7 @@ fn told(rt: &HostRuntime, error: &clap::Error, hints: &mut Hints) -> Result<Conc
     }
 }
 
-// Does what is wanted.
+// Runs the command that the words ask for.
 fn carry_out<S: Sources + Threads + Wait + Sync, B: Binds>(
     rt: &HostRuntime,
     sources: &S,
@@ -94,7 +94,7 @@ fn run_words<S: Sources + Threads + Wait + Sync, B: Binds>(
     ensures ok { OnOk result (EndsWell (fault_of landtree (map (λ w. w.now) words.now))) }
     ensures mistake { (EndsWell (fault_of landtree (map (λ w. w.now) words.now)) → ⊥)
         → (result ≡ Err Failure.CommandLine) ⊎ (result ≡ Err Failure.NoMemory) }
-    // Where clap finds no fault.
+    // If clap finds no fault.
     ensures ends { (order : Order) → fault_of landtree (map (λ w. w.now) words.now) ≡ []
         → ordered_by (map (λ w. w.now) words.now) ≡ Some order → Ends (S.texts sources.now) order result }
 {
@@ -104,7 +104,8 @@ fn run_words<S: Sources + Threads + Wait + Sync, B: Binds>(
     }
 }
 
-// Does what the program's words ask for, and tells of its end. Errors: there are no such words, and nothing is told.
+// Runs what the program's words ask for, and prints how it ended. Errors: the words can't be read, and nothing is
+// printed.
 fn run_program<S: Sources + Threads + Wait + Sync, B: Binds>(
     rt: &HostRuntime,
     sources: &S,

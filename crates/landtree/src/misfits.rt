@@ -1,4 +1,4 @@
-//! Words that clap takes, each for itself, and that don't go together.
+//! Words that clap accepts one by one, and that don't go together.
 
 use ll_path::{Path, Word};
 use ll_program::{
@@ -11,27 +11,27 @@ use std::fmt::Display;
 /// Why words don't go together.
 #[derive(Clone, Copy, Debug, PartialEq, Eq)]
 pub enum Misfit<'a> {
-    /// A level beside a policy.
+    /// A level together with a policy.
     TwoLevels,
-    /// This profile, and no policy.
+    /// This profile, without a policy.
     NoPolicy(&'a str),
     /// This file would be written over what is read.
     WritesOverInput(&'a str),
     QuietAndVerbose,
-    /// Lines are chosen, and no picture is wanted.
+    /// Lines are chosen without a picture.
     LinesOfNoPicture,
-    /// The first of the lines that are chosen is behind the last.
+    /// The first of the chosen lines is after the last.
     LinesTurned(u64, u64),
     NoSuchForm,
     NoSuchDenial,
     ExactBestEffort,
     /// The path after this option isn't absolute.
     RelativePath(&'static str, &'a str),
-    /// This word of `rights`.
+    /// This word of `rights` is no path.
     NoPath(&'a str),
-    /// Of `why`.
+    /// The words of `why` give neither an entry nor a command.
     NeitherEntryNorCommand,
-    /// Of `learn`.
+    /// The words of `learn` give neither checks nor a history.
     NeitherChecksNorHistory,
     ControlCharacter,
 }
@@ -86,7 +86,7 @@ impl Display for Misfit<'_> {
     }
 }
 
-// With these of a run's setup.
+// Returns the misfit in a run's setup.
 fn of_setup<'a>(
     has_level: bool,
     policy: Option<&'a str>,
@@ -99,7 +99,7 @@ fn of_setup<'a>(
     }
 }
 
-// With this written, and this read, where they are files.
+// Returns the misfit of an output that is the input, if both are files.
 fn of_output<'a>(output: Option<&'a str>, input: Option<&str>) -> Option<Misfit<'a>> {
     match (output, input) {
         (Some(output), Some(input)) if output == input && input != "-" => {
@@ -109,7 +109,7 @@ fn of_output<'a>(output: Option<&'a str>, input: Option<&str>) -> Option<Misfit<
     }
 }
 
-// With these lines chosen for a picture.
+// Returns the misfit in the lines chosen for a picture.
 fn of_lines<'a>(options: &ScheduleOptions<'a>) -> Option<Misfit<'a>> {
     if options.may_be_drawn() {
         return None;
@@ -120,7 +120,7 @@ fn of_lines<'a>(options: &ScheduleOptions<'a>) -> Option<Misfit<'a>> {
     }
 }
 
-// With the first of these paths behind an option that isn't absolute.
+// Returns the first of these paths of an option that isn't absolute.
 fn of_paths<'a>(option: &'static str, paths: &[&'a str]) -> Option<Misfit<'a>> {
     for path in paths {
         if !path.starts_with('/') {
@@ -130,7 +130,7 @@ fn of_paths<'a>(option: &'static str, paths: &[&'a str]) -> Option<Misfit<'a>> {
     None
 }
 
-// Where memory is wanted, every word is taken for one.
+// If memory runs out, every word is taken for a path.
 fn is_path(alloc: Global, word: &str) -> bool {
     let Ok(text) = String::from_str(alloc, word) else {
         return true;
@@ -142,7 +142,7 @@ fn is_path(alloc: Global, word: &str) -> bool {
 }
 
 impl<'a> Misfit<'a> {
-    /// Of `run`.
+    /// Returns the misfit in the words of `run`.
     pub fn of_run(options: &RunOptions<'a>) -> Option<Misfit<'a>> {
         let (save, script, policy) = (options.save, options.script, options.policy);
         of_setup(options.level.is_some(), policy, options.profile)
@@ -150,12 +150,12 @@ impl<'a> Misfit<'a> {
             .or(of_output(save, policy))
     }
 
-    /// Of `schedule`.
+    /// Returns the misfit in the words of `schedule`.
     pub fn of_schedule(options: &ScheduleOptions<'a>) -> Option<Misfit<'a>> {
         of_output(options.picture, Some(options.file)).or(of_lines(options))
     }
 
-    /// Of `check`.
+    /// Returns the misfit in the words of `check`.
     pub fn of_check(options: &CheckOptions<'a>) -> Option<Misfit<'a>> {
         if options.quiet && options.verbose {
             return Some(Misfit::QuietAndVerbose);
@@ -163,7 +163,7 @@ impl<'a> Misfit<'a> {
         of_setup(options.level.is_some(), options.policy, options.profile)
     }
 
-    /// Of `serve`.
+    /// Returns the misfit in the words of `serve`.
     pub fn of_serve(options: &ServeOptions<'a>) -> Option<Misfit<'a>> {
         of_setup(options.level.is_some(), options.policy, options.profile).or(of_output(
             options.save,
@@ -171,7 +171,7 @@ impl<'a> Misfit<'a> {
         ))
     }
 
-    /// Of `rights`: the first word that is no path.
+    /// Returns the misfit in the words of `rights`: the first word that is no path.
     pub fn of_rights(alloc: Global, options: &RightsOptions<'a>) -> Option<Misfit<'a>> {
         for word in &options.paths {
             if !is_path(alloc, word) {
@@ -181,7 +181,7 @@ impl<'a> Misfit<'a> {
         None
     }
 
-    /// Of `export`.
+    /// Returns the misfit in the words of `export`.
     pub fn of_export(options: &ExportOptions<'a>) -> Option<Misfit<'a>> {
         if options.form.is_none() {
             Some(Misfit::NoSuchForm)

@@ -9,7 +9,7 @@ use ll_program::{
 use ll_rights::limits::{HISTORY_ENTRIES, TREE_NODES};
 
 impl Hints {
-    /// Of `run`: a line of a strict script spells no command, or the policy is the reason.
+    /// Adds hints for `run`: a line of a strict script spells no command, or the policy is the reason.
     pub fn of_run<S: Sources>(
         &mut self,
         options: &RunOptions,
@@ -36,14 +36,14 @@ impl Hints {
         };
         match ended {
             Err(failure) => self.of_failure(failure, &given),
-            // No script is read where a call of the opening is refused by the only reply.
+            // The script wasn't read: a call of the opening was refused, which is the only reply.
             Ok(_) if !script.is_open() => self.of_opening(&given),
             Ok(_) => {}
         }
     }
 
-    /// Of `serve`: the policy is the reason. What a connection's profile asks is asked of a history that the others
-    /// haven't filled.
+    /// Adds hints for `serve`: the policy is the reason. The calls of a connection's profile are tried with a history
+    /// that the others haven't filled.
     pub fn of_serving<S: Sources>(
         &mut self,
         options: &ServeOptions,
@@ -65,7 +65,7 @@ impl Hints {
         }
     }
 
-    /// Of `rights`: the policy is the reason.
+    /// Adds hints for `rights`: the policy is the reason.
     pub fn of_rights(&mut self, options: &RightsOptions, failure: &Failure, text: Option<&[u8]>) {
         let (policy, profile) = (Some(options.policy), Some(options.profile));
         let given = Given::new(policy, text, profile, options.nodes, HISTORY_ENTRIES);
@@ -74,7 +74,7 @@ impl Hints {
         }
     }
 
-    /// Of `check`: the policy is the reason.
+    /// Adds hints for `check`: the policy is the reason.
     pub fn of_check(&mut self, options: &CheckOptions, failure: &Failure, text: &[u8]) {
         let (policy, profile) = (options.policy, options.profile);
         let given = Given::new(policy, Some(text), profile, options.nodes, HISTORY_ENTRIES);
@@ -83,8 +83,8 @@ impl Hints {
         }
     }
 
-    /// Of `learn`, from files of checks: the policy is the reason. No history is told beside files, and nobody has a
-    /// profile in their trees.
+    /// Adds hints for `learn` from files of checks: the policy is the reason. No history is given with files, and
+    /// nobody has a profile in their trees.
     pub fn of_lessons(&mut self, options: &LearnOptions, failure: &Failure, text: &[u8]) {
         let (policy, profile) = (options.policy, options.history);
         let given = Given::new(policy, Some(text), profile, options.nodes, HISTORY_ENTRIES);
@@ -93,7 +93,7 @@ impl Hints {
         }
     }
 
-    /// Of `export`: the policy is the reason, or a layer that can't be exported.
+    /// Adds hints for `export`: the policy is the reason, or a layer that can't be exported.
     pub fn of_export(&mut self, options: &ExportOptions, failure: &Failure, text: Option<&[u8]>) {
         let (policy, profile) = (Some(options.policy), Some(options.profile));
         let Some(given) = Given::new(policy, text, profile, TREE_NODES, HISTORY_ENTRIES) else {
@@ -105,7 +105,7 @@ impl Hints {
         }
     }
 
-    // Of `why` of a command: a word spells none, or the policy is the reason.
+    // Adds hints for `why` of a command: the word spells none, or the policy is the reason.
     fn of_command_asked(
         &mut self,
         options: &WhyOptions,
@@ -122,7 +122,8 @@ impl Hints {
         }
     }
 
-    /// Of `why`: a history lacks the entry or isn't legal, a word spells no command, or the policy is the reason.
+    /// Adds hints for `why`: a history lacks the entry or isn't legal, a word spells no command, or the policy is the
+    /// reason.
     pub fn of_question<S: Sources>(
         &mut self,
         options: &WhyOptions,

@@ -1,4 +1,4 @@
-//! The call of a policy's opening that is refused.
+//! The refused call of a policy's opening.
 
 ghost use Rattle.std.specs.Prelude.{◌≡◌, ◌<◌, ◌≤◌, ◌+◌, ◌-◌, ◌^◌, true, false, IfOk};
 ghost use Rattle.ll_rights.specs.Map.{has};
@@ -16,20 +16,20 @@ use std::alloc::{AllocError, Global};
 /// A client that comes before all others.
 #[derive(Clone, Copy)]
 enum Comer<'a> {
-    /// It makes the policy's nodes.
+    /// It creates the policy's nodes.
     Loader,
-    /// It makes the calls of the profile of this name.
+    /// It makes the calls of the profile with this name.
     Profile(&'a str),
 }
 
-/// Where a client stops: its calls up to the refused one, none where its connect is refused, and the reply.
+/// Where a client stops: its calls up to the refused one (none if its connect is refused), and the reply.
 #[derive(Drop)]
 struct Stop<'a> {
     calls: &'a [Call],
     reply: Reply,
 }
 
-// The reply to the client's call in a tree whose history has room for so many entries.
+// Returns the reply to the client's call in a tree whose history has this much room.
 fn answer(tree: &mut Plain, room: &mut usize, client: u64, call: &Call) -> Reply
     requires caller { has tree.old.clients client ≡ true }
     requires call { is_connect call.now ≡ false }
@@ -45,7 +45,7 @@ fn answer(tree: &mut Plain, room: &mut usize, client: u64, call: &Call) -> Reply
     tree.apply(client, call, fresh)
 }
 
-// The number of a client that connects. Errors: the reply that refuses it.
+// Returns the number of a client that connects. Errors: the reply that refuses it.
 fn connect(tree: &mut Plain, room: &mut usize) -> Result<u64, Reply>
     requires next { tree.old.next + room.old < 2 ^ 64 - 1 }
     ensures there { IfOk result (λ client. has tree.new.clients client ≡ true) }
@@ -63,7 +63,7 @@ fn connect(tree: &mut Plain, room: &mut usize) -> Result<u64, Reply>
     }
 }
 
-// A client comes and makes these calls in turn, up to the first that is refused.
+// Adds a client that makes these calls in turn. Returns where it stops, if one is refused.
 fn come<'a>(tree: &mut Plain, room: &mut usize, calls: &'a [Call]) -> Option<Stop<'a>>
     requires calls { AreOthers calls.now }
     requires next { tree.old.next + room.old < 2 ^ 64 - 1 }
@@ -85,7 +85,7 @@ fn come<'a>(tree: &mut Plain, room: &mut usize, calls: &'a [Call]) -> Option<Sto
     None
 }
 
-// Of a profile's call, the last of these: which rule of which layer it is, the call and the reply to it.
+// Returns the text on a profile's call, the last of these: which rule of which layer it is, the call and its reply.
 fn profile_text(
     alloc: Global,
     name: &str,
@@ -101,7 +101,7 @@ fn profile_text(
     format!(in alloc; "profile {name}, {told}")
 }
 
-// Of the call that is refused: where the policy asks for it, the call and the reply to it.
+// Returns the text on the refused call: where the policy asks for it, the call and its reply.
 fn call_text(alloc: Global, comer: Comer<'_>, stop: &Stop<'_>) -> Result<String, AllocError> {
     let (calls, reply) = (stop.calls, &stop.reply);
     let Some(call) = calls.last() else {
@@ -118,7 +118,7 @@ fn call_text(alloc: Global, comer: Comer<'_>, stop: &Stop<'_>) -> Result<String,
     }
 }
 
-// The same, and of a full history which word of the command line makes it longer.
+// Returns that text, and for a full history the option that makes it longer.
 fn stop_text(alloc: Global, comer: Comer<'_>, stop: &Stop<'_>) -> Result<String, AllocError> {
     let told = call_text(alloc, comer, stop)?;
     match stop.reply {
@@ -130,7 +130,7 @@ fn stop_text(alloc: Global, comer: Comer<'_>, stop: &Stop<'_>) -> Result<String,
     }
 }
 
-// The calls that a client of the profile makes first, none where no profile is wanted, or it isn't there.
+// Returns the calls that a client of the profile makes first, or none without a profile.
 fn profile_calls(
     alloc: Global,
     policy: &Policy,
@@ -147,8 +147,8 @@ fn profile_calls(
     }
 }
 
-/// The lines on the first call that is refused where a tree is opened by this policy: where the policy asks for it, the
-/// call, and the reply to it. None where no call is refused.
+/// Returns the lines on the first call that is refused when a tree is opened with this policy: where the policy asks
+/// for it, the call, and its reply. None if no call is refused.
 pub(crate) fn refused_text(
     alloc: Global,
     policy: &Policy,

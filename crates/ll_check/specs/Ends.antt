@@ -11,28 +11,28 @@ use Rattle.ll_program.specs.declared.failure.Failure.TheVariants.{File}
 use Rattle.ll_program.specs.Sources.{named, text_in}
 use Rattle.ll_check.specs.Files.{IsCheck, MayFail, Source}
 
--- the file of this name, with the text that it has where this is known
+-- the file with this name, with its text if that is known
 abbrev pub IsSource : (texts : Option (List ℕ) → Option (List ℕ)) → List ℕ → Source → Type 0
 IsSource texts name source = (source.name ≡ name) × IfSome (texts (named name)) (λ told. source.text ≡ told)
 
--- a check of the files that the words name ends so, where the policy's file has this text
+-- the result of a check of the files that the words name, if the policy's file has this text
 abbrev pub IsCheckedUnder : (texts : Option (List ℕ) → Option (List ℕ)) → CheckOrder → (policy : List ℕ) → Checked
     → Type 0
 IsCheckedUnder texts order policy end =
     (sources : List Source) × (written : List ℕ) × AllZip (IsSource texts) order.files sources
     × IsCheck order policy sources end written
 
--- the text of the policy that the words name, where one is named and its text is known
+-- the text of the policy that the words name, if one is named and its text is known
 abbrev pub IsPolicyText : (texts : Option (List ℕ) → Option (List ℕ)) → (named : Option (List ℕ)) → List ℕ → Type 0
 IsPolicyText texts policy text = IfSome (text_in texts policy) (λ told. text ≡ told)
 
--- what fails the program's check: a file that can't be read, or what may fail the check of the files
+-- why the program's check fails: a file can't be read, or the check of the files may fail
 abbrev pub FailsCheck : (texts : Option (List ℕ) → Option (List ℕ)) → CheckOrder → Failure → Type 0
 FailsCheck texts order File = ⊤
 FailsCheck texts order failure =
     (policy : List ℕ) × IsPolicyText texts order.policy policy × MayFail order policy failure
 
--- A check ends as the tests of its files have it, by the policy that the words name
+-- a check ends as the tests of its files say, by the policy that the words name
 abbrev pub EndsCheck : (texts : Option (List ℕ) → Option (List ℕ)) → CheckOrder → Result Conclusion Failure → Type 0
 EndsCheck texts order (Ok Done) = ⊥
 EndsCheck texts order (Ok (Stopped stopped)) = ⊥

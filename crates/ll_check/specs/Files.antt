@@ -26,7 +26,7 @@ use Rattle.ll_check.specs.declared.reading.Test.{Test}
 use Rattle.ll_check.specs.Checks.{AreTests, IsFirstBad}
 use Rattle.ll_check.specs.Report.{IsChecked}
 
--- ---- files, and what they say
+-- ---- files, and their tests
 
 -- a file of checks: its name, and its text
 pub record Source : Type 0 where
@@ -36,7 +36,7 @@ pub record Source : Type 0 where
 abbrev pub source_of : NamedText → Source
 source_of file = record { name = file.name.now; text = file.text.items }
 
--- a file that is read: its name, and its tests
+-- a file after it was read: its name, and its tests
 pub record Tests : Type 0 where
   pub name : List ℕ
   pub tests : List Test
@@ -54,13 +54,13 @@ HasBadLine sources =
 
 -- ---- the tree of a file
 
--- room in its history for each call that can come: the loader's, the profile's, their two connects, and one a test
+-- room in its history for each possible call: the loader's, the profile's, their two connects, and one for each test
 abbrev pub room_for : Setup → (tests : ℕ) → ℕ
 room_for setup tests =
     min (option_map_or (λ calls. length calls.items) setup.loader 0 + length setup.profile.items + tests + 2)
     HISTORY_ENTRIES
 
--- the setup of a file's tree, where the policy's file has this text
+-- the setup of a file's tree, if the policy's file has this text
 abbrev pub IsSetFor : CheckOrder → (policy : List ℕ) → (tests : ℕ) → Setup → Type 0
 IsSetFor order policy tests setup = IsSetup (checked_tree order (room_for setup tests)) policy setup
 
@@ -69,13 +69,13 @@ IsSetFor order policy tests setup = IsSetup (checked_tree order (room_for setup 
 abbrev pub detail_of : CheckOrder → Detail
 detail_of order = if order.quiet then Quiet else (if order.verbose then Verbose else Usual)
 
--- a file's tests are made in a tree of its own, which is set up so, and are reported and counted
+-- a file's tests are made in a tree of its own, with this setup, and are reported and counted
 abbrev pub IsFileChecked : CheckOrder → (policy : List ℕ) → Tests → (before after : List ℕ) → Tally → Type 0
 IsFileChecked order policy file before after tally =
     (setup : Setup) × (made : CallReplies) × (entries : List Entry) × IsSetFor order policy (length file.tests) setup
     × IsChecked (detail_of order) setup file.name file.tests made entries before after tally
 
--- the files are checked one after the other, each report comes behind the one before it, and this is the sum
+-- the files are checked one after the other, each report follows the one before it, and this is the sum
 abbrev pub AreChecked : CheckOrder → (policy : List ℕ) → List Tests → (before after : List ℕ) → (sum : Tally) → Type 0
 AreChecked order policy [] before after sum = (after ≡ before) × (sum.passed ≡ 0) × (sum.failed ≡ 0)
 AreChecked order policy (file ∷ files) before after sum =
@@ -87,24 +87,25 @@ AreChecked order policy (file ∷ files) before after sum =
 abbrev pub sum_line : Tally → List ℕ
 sum_line sum = decimal sum.passed ++ codes " passed, " ++ decimal sum.failed ++ codes " failed\n"
 
--- passed exactly where each file has a test and none fails
+-- passed exactly if each file has a test and none fails
 abbrev pub end_of : List Tests → (sum : Tally) → Checked
 end_of files sum = if list_all has_test files && (sum.failed == 0) then Passed else Failed
 
--- the files are checked, the reports and the sum's line are written, and it ends so
+-- the files are checked, the reports and the sum's line are written, and this is the result
 abbrev pub Concludes : CheckOrder → (policy : List ℕ) → List Tests → Checked → (written : List ℕ) → Type 0
 Concludes order policy files end written =
     (report : List ℕ) × (sum : Tally) × AreChecked order policy files [] report sum
     × (written ≡ report ++ sum_line sum) × (end ≡ end_of files sum)
 
--- A check of these files, where the policy's file has this text: where a line says nothing, nothing is made or written
+-- A check of these files, if the policy's file has this text. If a line is neither silent nor a test, nothing is run or
+-- written
 abbrev pub IsCheck : CheckOrder → (policy : List ℕ) → List Source → Checked → (written : List ℕ) → Type 0
 IsCheck order policy sources end written =
     (HasBadLine sources × (end ≡ BadLine) × (written ≡ []))
     ⊎ ((files : List Tests) × AllZip AreTestsOf sources files × Concludes order policy files end written)
 
--- Why files aren't checked to the end: a policy is named, and there is no setup by it, or a fault ends the run of a
--- file's tests, or the report can't be written, or want of memory
+-- Why files aren't checked to the end: a policy is named, and gives no setup; a fault ends the run of a file's tests;
+-- the report can't be written; or NoMemory
 abbrev pub MayFail : CheckOrder → (policy : List ℕ) → Failure → Type 0
 MayFail order policy failure =
     ((is_some order.policy ≡ true) × Lacks (checked_tree order HISTORY_ENTRIES) policy failure)
@@ -117,6 +118,6 @@ MayFail order policy failure =
 abbrev pub tests_of : ReadFile → Tests
 tests_of file = record { name = file.name.now; tests = file.checks.tests.items }
 
--- the file is read so
+-- the file after it was read
 abbrev pub IsReadAs : NamedText → ReadFile → Type 0
 IsReadAs text file = AreTestsOf (source_of text) (tests_of file)

@@ -1,4 +1,4 @@
--- What is learned from files of checks, and what is written of it. own
+-- What is learned from files of checks, and what is written about it. own
 use Rattle.std.specs.Prelude.{◌≡◌, ◌⊎◌, ◌<◌, ◌≤◌, ◌-◌, ℕ, true, not, is_some, List, [], Option, Some, None, Result}
 use Rattle.std.specs.Prelude.{Ok, Err, codes, length, map, slice_get, if◌then◌else◌}
 use Rattle.std.specs.List.{AllByRecursion, AllZip, filter, list_all}
@@ -43,11 +43,11 @@ use Rattle.ll_check.specs.Wanted.{Satisfies, is_allowed, wants_denial}
 
 -- ---- Trees
 
--- the setup that the policy's file gives, where nobody gets a layer
+-- the setup that the policy's file gives, in which nobody has a layer
 abbrev pub IsBlank : LearnOrder → (policy : List ℕ) → Setup → Type 0
 IsBlank order policy setup = IsSetup (lesson_tree order HISTORY_ENTRIES) policy setup
 
--- the same with room for so many tests, before which their first client makes these calls
+-- the same setup, with room for this many tests, and with these calls made by the first client before them
 pub record IsTree (order : LearnOrder) (policy : List ℕ) (calls : List Call) (tests : ℕ) (setup : Setup) : Type 0
   where
     pub blank : Setup
@@ -58,7 +58,7 @@ pub record IsTree (order : LearnOrder) (policy : List ℕ) (calls : List Call) (
     pub history : setup.history ≡ room_for setup tests
     pub profile : setup.profile.items ≡ calls
 
--- In such a tree the tests are made, which leaves these entries, and each gets a reply as it must be
+-- in such a tree the tests are made, which leaves these entries, and each gets a reply that it must get
 pub record AreMade (order : LearnOrder) (policy : List ℕ) (calls : List Call) (Must : Test → Reply → Type 0)
     (tests : List Test) (entries : List Entry) : Type 0 where
   pub setup : Setup
@@ -69,33 +69,33 @@ pub record AreMade (order : LearnOrder) (policy : List ℕ) (calls : List Call) 
 
 -- ---- Lessons
 
--- the tests of a file that don't want a denial
+-- the tests of a file that don't expect a denial
 abbrev pub lessons_of : Tests → Tests
 lessons_of file =
     record { name = file.name; tests = filter (λ test. not (wants_denial test.wanted)) file.tests }
 
--- the reply is as wanted, and the call stands in the history
+-- the reply is as expected, and the call is in the history
 abbrev pub IsLearnedFrom : Test → Reply → Type 0
 IsLearnedFrom test got = Satisfies test.wanted got × (is_allowed got ≡ true)
 
--- a file's lessons are made where nobody has a layer
+-- a file's lessons are made with nobody under a layer
 abbrev pub AreTaught : LearnOrder → (policy : List ℕ) → (lessons : Tests) → List Entry → Type 0
 AreTaught order policy lessons entries = AreMade order policy [] IsLearnedFrom lessons.tests entries
 
 -- ---- The profile
 
--- who makes the lessons: behind a loader the client of number 2
+-- the client that makes the lessons: number 2 if there is a loader
 abbrev pub learner : Setup → ℕ
 learner blank = if is_some blank.loader then 2 else 1
 
--- what is learned, where the policy gives this setup: rules with any right of its level that isn't withheld
+-- what is to be learned, if the policy gives this setup: rules with any right of its level that isn't withheld
 pub record IsAim (order : LearnOrder) (blank : Setup) (aim : Aim) : Type 0 where
   pub client : aim.client ≡ learner blank
   pub handled : aim.handled.0 ≡ known_set blank.rules.abi
   pub never : IsWithheld order.never (Some aim.never)
   pub beneath : aim.beneath.now ≡ map path_of_text order.beneath
 
--- what is learned from: the lessons of all files, each made in a tree of its own
+-- what is learned from: the lessons of all files, each file's in a tree of its own
 pub record Course (order : LearnOrder) (policy : List ℕ) (lessons : List Tests) : Type 0 where
   pub blank : Setup
   pub is : IsBlank order policy blank
@@ -108,14 +108,14 @@ abbrev pub IsTaughtBy : LearnOrder → (policy : List ℕ) → (lessons : List T
 IsTaughtBy order policy lessons profile =
     (c : Course order policy lessons) × IsLearned (opened (header_of c.blank)) c.histories c.aim profile
 
--- all tests of a file pass where its first client has the profile's layer
+-- all tests of a file pass if its first client has the profile's layer
 abbrev pub PassesUnder : LearnOrder → (policy : List ℕ) → LearnedProfile → Tests → Type 0
 PassesUnder order policy profile file = (entries : List Entry)
     × AreMade order policy (calls_of profile) (λ test got. Satisfies test.wanted got) file.tests entries
 
 -- ---- What is written
 
--- the line on the lesson whose call the entry is: where it stands, and its command
+-- the line on the lesson whose call the entry has: its place, and its command
 abbrev pub lesson_note : (lessons : List Tests) → Origin → List ℕ
 lesson_note lessons origin = option_map_or
     (λ (file : Tests). option_map_or (heading file.name) (slice_get file.tests (origin.entry - 1)) (codes "\n"))
@@ -134,11 +134,11 @@ pub record IsProfile (order : LearnOrder) (policy : List ℕ) (files : List Test
 
 -- ---- How it ends
 
--- the words tell no name of a profile, no rights, or no path
+-- the words give no valid name of a profile, no rights, or no path
 abbrev pub HasWrongWord : LearnOrder → Type 0
 HasWrongWord order = (profile_name order ≡ None) ⊎ IsWithheld order.never None ⊎ HasBadWord order.beneath
 
--- a path of the words names nothing, or there are more rules than the words allow
+-- a path of the words leads to no node, or there are more rules than the words allow
 abbrev pub IsOutside : LearnOrder → (policy : List ℕ) → (lessons : List Tests) → Type 0
 IsOutside order policy lessons =
     ((c : Course order policy lessons) × (path : ℕ)
@@ -146,7 +146,7 @@ IsOutside order policy lessons =
     ⊎ ((profile : LearnedProfile) × IsTaughtBy order policy lessons profile
     × (most_rules order < length profile.rules.items))
 
--- why the trees of files aren't opened, or tests not made there to the end
+-- why the trees of files aren't opened, or their tests aren't made to the end
 abbrev pub FailsToMake : LearnOrder → (policy : List ℕ) → Failure → Type 0
 FailsToMake order policy failure =
     ((is_some order.policy ≡ true) × Lacks (lesson_tree order HISTORY_ENTRIES) policy failure)
@@ -159,7 +159,7 @@ abbrev pub FailsToLearn : LearnOrder → (policy : List ℕ) → (lessons : List
 FailsToLearn order policy lessons failure =
     ((failure ≡ CommandLine) × IsOutside order policy lessons) ⊎ FailsToMake order policy failure
 
--- the same of these files, or a word is wrong
+-- why nothing is learned from these files: that, or a word is wrong
 abbrev pub IsReason : LearnOrder → (policy : List ℕ) → List Source → Failure → Type 0
 IsReason order policy sources failure =
     ((failure ≡ CommandLine) × HasWrongWord order)
@@ -167,7 +167,7 @@ IsReason order policy sources failure =
     × FailsToLearn order policy (map lessons_of files) failure)
     ⊎ (failure ≡ NoMemory)
 
--- A profile is written. Else nothing is, or a beginning of it, where the output fails
+-- A profile is written. Otherwise nothing is, or a prefix of it if the output fails
 abbrev pub EndsLessons : LearnOrder → (policy : List ℕ) → List Source → (out out' : Option (List ℕ))
     → Result Checked Failure → Type 0
 EndsLessons order policy sources out out' (Ok Passed) = (files : List Tests) × AllZip AreTestsOf sources files
@@ -185,7 +185,7 @@ EndsLessons order policy sources out out' (Err failure) =
 abbrev pub picked : FileLessons → Tests
 picked file = record { name = file.name.now; tests = map (λ t. t.now) file.tests.items }
 
--- each lesson is answered, as it must be
+-- each lesson gets a reply that it must get
 abbrev pub AreMet : List Test → CallReplies → Type 0
 AreMet tests (Answered replies) = AllZip IsLearnedFrom tests replies.items
 AreMet tests (Refused reply) = ⊥

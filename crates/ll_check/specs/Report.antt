@@ -27,7 +27,7 @@ pub record Judged : Type 0 where
 abbrev pub judged : Test → Reply → Bool → Judged
 judged test reply passes = record { test = test; reply = reply; passes = passes }
 
--- it passes exactly where the reply is as wanted
+-- it passes exactly if the reply is as expected
 abbrev pub IsJudged : Judged → Type 0
 IsJudged it = IsTrue it.passes ↔ Satisfies it.test.wanted it.reply
 
@@ -46,14 +46,14 @@ failed verdicts = count_by (λ it. not it.passes) verdicts
 
 -- ---- texts
 
--- where a test stands, and its command
+-- the place of a test, and its command
 abbrev pub heading : List ℕ → Test → List ℕ
 heading file test = file ++ codes ":" ++ decimal test.line ++ codes ": " ++ call_line test.call
 
 abbrev pub expected : Wanted → List ℕ
 expected wanted = codes "expected " ++ (wanted_text wanted ++ codes "\n")
 
--- a test that passes is shown where everything is, and one that fails unless nothing is
+-- a passed test is shown only if everything is; a failed one unless nothing is
 abbrev pub shows : Detail → Bool → Bool
 shows detail.Quiet passes = false
 shows detail.Usual true = false
@@ -69,21 +69,21 @@ shown detail file it =
 
 -- ---- a whole file
 
--- the tests are judged by their replies, the report on them is put behind what was there, and so many pass and fail
+-- the tests are judged by their replies, the report on them is appended, and this many pass and fail
 abbrev pub Judges : Detail → (file : List ℕ) → List Test → List Reply → (before after : List ℕ) → Tally → Type 0
 Judges detail file tests replies before after tally =
     (verdicts : List Judged) × AreJudged tests replies verdicts
     × (after ≡ before ++ flat_map (shown detail file) verdicts)
     × (tally.passed ≡ passed verdicts) × (tally.failed ≡ failed verdicts)
 
--- The same of tests that were made so. A profile that is refused is one test that fails; how that is told, no
--- definition says
+-- The report on tests after their calls were made. A refused profile counts as one failed test; no definition says how
+-- that is reported
 abbrev pub Tells : Detail → (file : List ℕ) → List Test → CallReplies → (before after : List ℕ) → Tally → Type 0
 Tells detail file tests (Answered replies) before after tally =
     Judges detail file tests replies.items before after tally
 Tells detail file tests (Refused reply) before after tally = (tally.passed ≡ 0) × (tally.failed ≡ 1)
 
--- the tests' calls are made under this setup, which leaves these entries, and the tests are reported and counted
+-- the tests' calls are made with this setup, which leaves these entries, and the tests are reported and counted
 abbrev pub IsChecked : Detail → Setup → (file : List ℕ) → List Test → CallReplies → List Entry
     → (before after : List ℕ) → Tally → Type 0
 IsChecked detail setup file tests made entries before after tally =

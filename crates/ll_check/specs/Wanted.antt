@@ -14,14 +14,14 @@ use Rattle.ll_check.specs.declared.wanted.Wanted.{Wanted}
 use Rattle.ll_check.specs.declared.wanted.Wanted.TheVariants.{Success, Allowed, Denied, DeniedRight, DeniedAt, Whole}
 use Rattle.ll_check.specs.declared.wanted.Wanted.TheVariants.{First}
 
--- it neither refuses nor denies
+-- neither a refusal nor a denial
 abbrev pub is_success : Reply → Bool
 is_success (reply.Refused errno) = false
 is_success (reply.Denied denial) = false
 is_success _ = true
 
--- The tree has answered so, and no layer denies the call. (A full history, want of memory and a client that isn't there
--- aren't the tree's answers)
+-- The tree's own reply, and no layer denies the call. (HistoryFull, NoMemory and a client that doesn't exist aren't the
+-- tree's replies)
 abbrev pub is_allowed : Reply → Bool
 is_allowed (reply.Denied denial) = false
 is_allowed (reply.Refused HistoryFull) = false
@@ -29,7 +29,7 @@ is_allowed (reply.Refused NoMemory) = false
 is_allowed (reply.Refused BadLine) = false
 is_allowed _ = true
 
--- the reply is as wanted
+-- the reply is as expected
 abbrev pub Satisfies : Wanted → Reply → Type 0
 Satisfies Success got = is_success got ≡ true
 Satisfies Allowed got = is_allowed got ≡ true
@@ -40,7 +40,7 @@ Satisfies (DeniedAt right place) got =
 Satisfies (Whole given) got = got ≡ given
 Satisfies (First words) got = Begins words got
 
--- a denial is wanted, or what begins as one
+-- a denial is expected, or the first words of one
 abbrev pub wants_denial : Wanted → Bool
 wants_denial Denied = true
 wants_denial (DeniedRight right) = true
@@ -49,7 +49,7 @@ wants_denial (Whole (reply.Denied denial)) = true
 wants_denial (First (first.Denied told)) = true
 wants_denial _ = false
 
--- when what is wanted has a spelling behind a command, and its text. Success is wanted where nothing is behind it
+-- when an expectation has a spelling after a command, and its text. Without one, success is expected
 abbrev pub wanted_told : Wanted → Type 0 × List ℕ
 wanted_told Success = (⊥, codes "neither refused nor denied")
 wanted_told Allowed = (⊤, codes "allowed")
@@ -68,7 +68,7 @@ SpellsWanted text wanted = (wanted_told wanted).0 × (text ≡ wanted_text wante
 
 -- ---- parts, which no public contract cites
 
--- it is wanted of the layers
+-- it is expected of the layers
 abbrev pub is_of_layers : Wanted → Bool
 is_of_layers Allowed = true
 is_of_layers Denied = true

@@ -17,7 +17,7 @@ use std::alloc::AllocError;
 use std::sync::Wait;
 
 impl Reporter<'_> {
-    // Reports on how the tests were made.
+    // Appends the report on the tests.
     fn report(
         &self,
         out: &mut Vec<u8>,
@@ -44,7 +44,7 @@ impl Reporter<'_> {
     }
 }
 
-/// What came of a file's check.
+/// The result of a file's check.
 #[derive(Drop)]
 pub struct CheckedFile {
     pub tally: Tally,
@@ -53,7 +53,8 @@ pub struct CheckedFile {
     pub history: History,
 }
 
-/// Makes a file's tests in a tree of its own, judges the replies, and writes the report at the end.
+/// Makes a file's tests in a tree of its own, judges the replies, and appends the report. Errors: a fault of the run,
+/// or memory ran out.
 pub fn check_file<R: Wait>(
     rt: &R,
     out: &mut Vec<u8>,

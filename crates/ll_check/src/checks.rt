@@ -28,8 +28,7 @@ pub struct NamedText<'a> {
     pub text: Vec<u8>,
 }
 
-/// What is to be checked: what the words ask for, the text of the policy that they name, if they name one, and the
-/// files.
+/// What is to be checked: the options, the text of the policy that they name, if any, and the files.
 #[derive(Clone, Copy)]
 pub struct CheckInput<'a, 'w> {
     pub options: &'a CheckOptions<'w>,
@@ -37,7 +36,7 @@ pub struct CheckInput<'a, 'w> {
     pub files: &'a [NamedText<'w>],
 }
 
-/// A file that is read: its name, and its tests.
+/// A file after it was read: its name, and its tests.
 #[derive(Drop)]
 pub(crate) struct ReadFile<'w> {
     pub name: &'w str,
@@ -52,14 +51,14 @@ impl ReadFile<'_> {
     }
 }
 
-/// Why a file can't be read, and which of them, from 0.
+/// Why a file can't be read, and its index, from 0.
 #[derive(Clone, Copy)]
 pub(crate) struct BadFile {
     file: usize,
     fault: CheckFault,
 }
 
-/// What all files say, up to the first that can't be read.
+/// Reads all files, up to the first that can't be read.
 pub(crate) fn read_all<'w>(
     alloc: Global,
     texts: &[NamedText<'w>],
@@ -87,7 +86,7 @@ pub(crate) fn read_all<'w>(
     Ok(files)
 }
 
-// How many calls a tree's loader makes.
+// Returns the number of calls that a tree's loader makes.
 fn loader_calls(setup: &Setup) -> usize
     ensures { result ≡ option_map_or (λ calls. length calls.items) setup.now.loader 0 }
 {
@@ -97,7 +96,7 @@ fn loader_calls(setup: &Setup) -> usize
     }
 }
 
-// Room in the history for all calls of a check.
+// Returns the room that the history needs for all calls of a check.
 fn room_of(setup: &Setup, tests: usize) -> usize
     ensures room { result ≡ room_for setup.now tests }
     ensures some { 1 ≤ result }
@@ -110,7 +109,7 @@ fn room_of(setup: &Setup, tests: usize) -> usize
         .min(HISTORY_ENTRIES)
 }
 
-/// The setup with room in its history for so many tests.
+/// Returns the setup with room in its history for this many tests.
 pub(crate) fn with_room(mut setup: Setup, tests: usize) -> Setup
     ensures rules { result.rules ≡ setup.rules }
     ensures nodes { result.nodes ≡ setup.nodes }
@@ -122,7 +121,7 @@ pub(crate) fn with_room(mut setup: Setup, tests: usize) -> Setup
     setup
 }
 
-// The setup of a file's tree.
+// Returns the setup of a file's tree.
 fn setup_for(
     alloc: Global,
     options: &CheckOptions,
@@ -151,7 +150,7 @@ fn detail_of(options: &CheckOptions) -> Detail
     }
 }
 
-// Checks a file. What is reported comes behind the report so far.
+// Checks a file, and appends its report.
 fn check_one<R: Wait, N: Notes>(
     rt: &R,
     alloc: Global,
@@ -183,7 +182,7 @@ fn check_one<R: Wait, N: Notes>(
 }
 
 impl Tally {
-    // Of none.
+    // Returns a tally of no tests.
     fn empty() -> Tally
         ensures passed { result.passed ≡ 0 }
         ensures failed { result.failed ≡ 0 }
@@ -194,7 +193,7 @@ impl Tally {
         }
     }
 
-    // Of the tests of both. Errors: there are more than a number counts, which no memory holds.
+    // Returns the sum of both. Errors: more tests than a number counts, which no memory holds.
     fn plus(self, other: Tally) -> Result<Tally, Failure>
         ensures passed { IfOk result (λ sum. sum.passed ≡ self.passed + other.passed) }
         ensures failed { IfOk result (λ sum. sum.failed ≡ self.failed + other.failed) }
@@ -231,7 +230,7 @@ fn check_all<R: Wait, N: Notes>(
     Ok(sum)
 }
 
-// How many tests pass and fail, written at the end.
+// Appends the line with how many tests pass and fail.
 fn push_sum(report: &mut Vec<u8>, alloc: Global, sum: Tally) -> Result<(), AllocError>
     ensures { OnOk result (report.new.items ≡ report.old.items ++ sum_line sum) }
 {
@@ -249,14 +248,14 @@ fn are_tested(files: &[ReadFile<'_>]) -> bool
     files.iter().all(|file| file.has_test())
 }
 
-/// Whether each file has a test.
+/// Reports whether each file has a test.
 pub(crate) fn have_tests(files: &[ReadFile<'_>]) -> bool
     ensures { result ≡ list_all has_test (map tests_of files.now) }
 {
     are_tested(files)
 }
 
-/// Tells which files have no test.
+/// Prints which files have no test.
 pub(crate) fn tell_untested<E: Write>(files: &[ReadFile<'_>], err: &mut E) {
     for file in files {
         if !file.has_test() {
@@ -265,7 +264,7 @@ pub(crate) fn tell_untested<E: Write>(files: &[ReadFile<'_>], err: &mut E) {
     }
 }
 
-// Tells that a policy is asked for and none of its profiles.
+// Prints that a policy is given and none of its profiles.
 fn tell_no_profile<E: Write>(options: &CheckOptions, err: &mut E) {
     if options.policy.is_some() && options.profile.is_none() {
         let _ = writeln!(
@@ -275,7 +274,7 @@ fn tell_no_profile<E: Write>(options: &CheckOptions, err: &mut E) {
     }
 }
 
-// How it ends.
+// Returns the result of the check.
 fn end_of(files: &[ReadFile<'_>], sum: Tally) -> Checked
     ensures { result ≡ end_of (map tests_of files.now) sum }
 {
@@ -286,7 +285,7 @@ fn end_of(files: &[ReadFile<'_>], sum: Tally) -> Checked
     }
 }
 
-// Checks what was read, and writes the report.
+// Checks the files that were read, and writes the report.
 fn conclude<R: Wait, W: Write, N: Notes>(
     rt: &R,
     alloc: Global,
@@ -310,7 +309,7 @@ fn conclude<R: Wait, W: Write, N: Notes>(
     Ok(end_of(files, sum))
 }
 
-// Tells where a file's line says nothing, and what was expected there.
+// Prints where a file's line is neither silent nor a test, and what is expected there.
 fn tell_line<E: Write>(alloc: Global, file: &NamedText<'_>, line: usize, err: &mut E) {
     let name = file.name;
     let Ok(Some(blame)) = explain(alloc, LinesOf::Checks, file.text.as_slice(), line) else {
@@ -325,7 +324,7 @@ fn tell_line<E: Write>(alloc: Global, file: &NamedText<'_>, line: usize, err: &m
     };
 }
 
-/// Tells where a line says nothing, if that is why files can't be read.
+/// Prints where a line is neither silent nor a test, if that is why files can't be read.
 pub(crate) fn tell_bad<E: Write>(
     alloc: Global,
     files: &[NamedText<'_>],
@@ -347,10 +346,11 @@ pub(crate) fn tell_bad<E: Write>(
     }
 }
 
-/// Checks files, each over a tree of its own, and writes the report. All are read before anything is run: where a line
-/// says nothing, that is told, and nothing else is done. So is a file without a test told, and a policy of which no
-/// profile is chosen. Notes that are wanted are told of the tests that are shown and fail by a denial. Errors: the
-/// policy's text gives no setup, a call of the policy's loader is refused, `out` fails, or memory ran out.
+/// Checks files, each on a tree of its own, and writes the report. All files are read before anything is run. If a line
+/// is neither silent nor a test, that is printed to `err`, and nothing else is done. A file without a test is printed
+/// there too, and a policy without a chosen profile. If notes are wanted, they get each test that is shown and fails by
+/// a denial. Errors: the policy's text gives no setup, a call of the policy's loader is refused, `out` fails, or memory
+/// ran out.
 pub fn check<R: Wait, W: Write, E: Write, N: Notes>(
     rt: &R,
     alloc: Global,

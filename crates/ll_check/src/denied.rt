@@ -1,4 +1,4 @@
-//! Tests that fail by a denial. No contract says which of them are told: it helps who wrote the test.
+//! Tests that fail by a denial. No contract says which of them are reported: that helps whoever wrote the test.
 
 ghost use Rattle.std.specs.Prelude.{◌≤◌};
 ghost use Rattle.ll_rights.specs.declared.limits.TheConstants.{TREE_NODES};
@@ -14,7 +14,7 @@ use ll_wire::Header;
 /// A test that fails by a denial.
 #[derive(Clone, Copy)]
 pub struct DeniedTest<'a> {
-    /// The file that it stands in, its line there, from 1, and its command.
+    /// The test's file, its line there, from 1, and its command.
     pub file: &'a [u8],
     pub line: usize,
     pub command: &'a str,
@@ -23,18 +23,18 @@ pub struct DeniedTest<'a> {
     pub number: usize,
 }
 
-/// Who is told of tests that fail by a denial.
+/// Is notified of tests that fail by a denial.
 pub trait Notes {
-    /// Whether anything is to be told.
+    /// Reports whether anything is wanted.
     fn are_wanted(&self) -> bool;
 
-    /// This test fails by a denial, in a tree that was opened so.
+    /// This test fails by a denial, in a tree created with this header.
     fn of_denied(&mut self, header: &Header, test: &DeniedTest<'_>)
         requires some { 1 ≤ header.now.nodes }
         requires most { header.now.nodes ≤ TREE_NODES };
 }
 
-// Whether a call that gets this reply stands in the history.
+// Reports whether a call with this reply has an entry in the history.
 fn has_entry(reply: &Reply) -> bool {
     !matches!(
         reply,
@@ -42,7 +42,7 @@ fn has_entry(reply: &Reply) -> bool {
     )
 }
 
-// How many of the replies are to calls that stand in the history.
+// Returns how many of the replies are to calls with an entry in the history.
 fn entered(replies: &[Reply]) -> usize {
     let mut count: usize = 0;
     for reply in replies {
@@ -53,7 +53,7 @@ fn entered(replies: &[Reply]) -> usize {
     count
 }
 
-/// Tells of the tests of a file that fail by a denial.
+/// Reports the tests of a file that fail by a denial.
 pub fn tell_denied<N: Notes>(
     notes: &mut N,
     reporter: &Reporter<'_>,
@@ -68,7 +68,7 @@ pub fn tell_denied<N: Notes>(
         return;
     };
     let entries = checked.history.entries();
-    // The profile's calls stand before those of the tests.
+    // The profile's calls come before those of the tests.
     let mut number = entries.len().saturating_sub(entered(replies.as_slice()));
     for (test, reply) in tests.iter().zip(replies.as_slice()) {
         if has_entry(reply) {

@@ -1,4 +1,5 @@
-//! What is wrong with a line that says nothing. No contract says what is told: it helps who wrote the line.
+//! What is wrong with a line that is neither silent nor a test. No contract says what is printed: it helps whoever
+//! wrote it.
 
 use crate::lines::body_of;
 use crate::wanted::verdict_of;
@@ -7,14 +8,14 @@ use ll_rights::{Access, Errno, Kind, Right};
 use ll_wire::{LINE_LIMIT, read_first_words, split_line};
 use std::alloc::{AllocError, Global};
 
-/// What lines are of, which tells what they may say.
+/// The kind of text that a line is in, which decides what it may say.
 #[derive(Clone, Copy, Debug, PartialEq, Eq)]
 pub enum LinesOf {
-    /// A script, in which each is a command, of any client that has come.
+    /// A script: each line is a command, of any client that has come.
     Script,
-    /// A file of checks, which has comments too, and replies behind the sign `=`.
+    /// A file of checks, which also has comments, and replies after the sign `=`.
     Checks,
-    /// A word of the command line, which is one command of the only client, without a line feed.
+    /// A word of the command line: one command of the only client, without a line feed.
     Word,
 }
 
@@ -41,7 +42,7 @@ impl LinesOf {
         }
     }
 
-    // Whether a line of them may name a client.
+    // Reports whether such a line may name a client.
     fn names_client(self, token: &str) -> bool {
         match self {
             LinesOf::Script | LinesOf::Checks => is_client(token),
@@ -49,14 +50,14 @@ impl LinesOf {
         }
     }
 
-    // Whether a reply may stand behind a command.
+    // Reports whether a reply may follow a command.
     fn has_replies(self) -> bool {
         matches!(self, LinesOf::Checks)
     }
 }
 
-/// Where in a line something else was expected, counted in bytes from 1; what; and the word that was meant, where that
-/// is plain.
+/// Where in a line something else was expected, in bytes from 1; what; and the word that was probably meant, if that is
+/// clear.
 #[derive(Drop)]
 pub struct Blame {
     pub column: usize,
@@ -74,7 +75,7 @@ impl Blame {
     }
 }
 
-/// What an argument of a command is.
+/// The kinds of arguments of commands.
 #[derive(Clone, Copy)]
 enum Argument {
     Kind,
@@ -85,7 +86,7 @@ enum Argument {
     Path,
 }
 
-// How many arguments a command of this name has, if there is one.
+// Returns the number of arguments of a command with this name, if there is one.
 fn count_of(name: &str) -> Option<usize> {
     match name {
         "spawn" => Some(0),
@@ -110,7 +111,7 @@ fn argument_of(name: &str, place: usize) -> Argument {
 }
 
 impl Argument {
-    // What is expected in the place of this token.
+    // Returns what is expected in place of this token.
     fn text_for(self, token: &str) -> &'static str {
         match self {
             Argument::Path if is_printed(token) => "a word of at most 8000 bytes is expected",
@@ -187,7 +188,7 @@ fn is_client(token: &str) -> bool {
     }
 }
 
-// The set of these rights as it is spelled, where each of the words is a right.
+// Returns the set of these rights in its spelling, if each of the words is a right.
 fn meant(alloc: Global, token: &str) -> Result<Option<String>, AllocError> {
     let mut rights = Access(0);
     for name in token.split(',') {
@@ -199,7 +200,7 @@ fn meant(alloc: Global, token: &str) -> Result<Option<String>, AllocError> {
     Ok(Some(rights.text(alloc)?))
 }
 
-// Blames a word that isn't the argument that is wanted here.
+// Blames a word that isn't the argument expected here.
 fn blame_argument(
     alloc: Global,
     column: usize,
@@ -216,15 +217,15 @@ fn blame_argument(
 /// A place between two words of a line.
 #[derive(Clone, Copy)]
 enum Stage<'a> {
-    /// Nothing but a client's name has come.
+    /// After nothing but a client's name.
     Start,
-    /// Of this command so many arguments have come.
+    /// After this many arguments of this command.
     Arguments(&'a str, usize),
-    /// The command, and the sign `=`.
+    /// After the command and the sign `=`.
     Reply,
 }
 
-// What comes behind a word that stands in its place, or the blame.
+// Returns the place after a valid word, or the blame.
 fn step<'a>(
     alloc: Global,
     of: LinesOf,
@@ -260,7 +261,7 @@ fn step<'a>(
     }
 }
 
-// Whether this is what a reply begins with, or what is wanted of the layers.
+// Reports whether a reply begins like this, or a verdict of the layers does.
 fn is_begun(alloc: Global, words: &[u8]) -> Result<bool, AllocError> {
     if verdict_of(words).is_some() {
         return Ok(true);
@@ -293,7 +294,7 @@ fn blame_reply(alloc: Global, column: usize, reply: &str) -> Result<Blame, Alloc
     ))
 }
 
-// What is wrong with a line that spells this command, whose end is at this column, and has its line feed or lacks it.
+// Returns what is wrong with a line that spells this command, which ends at this column, with its line feed or without.
 fn blame_whole(of: LinesOf, command: &str, column: usize, is_ended: bool) -> Option<Blame> {
     match of {
         LinesOf::Script if !is_ended => Some(Blame::new(column, "a line feed is expected")),
@@ -305,7 +306,7 @@ fn blame_whole(of: LinesOf, command: &str, column: usize, is_ended: bool) -> Opt
     }
 }
 
-// What is expected behind the last word of a line's text.
+// Returns what is expected after the last word of a line's text.
 fn blame_end(
     of: LinesOf,
     stage: Stage<'_>,
@@ -348,7 +349,7 @@ fn explain_text(
     Ok(blame_end(of, stage, text, place, is_ended))
 }
 
-// The line of this number, from 1.
+// Returns the line with this number, from 1.
 fn line_at(text: &[u8], number: usize) -> &[u8] {
     let mut rest = text;
     let mut left = number;
@@ -363,13 +364,13 @@ fn line_at(text: &[u8], number: usize) -> &[u8] {
     &[]
 }
 
-// Whether no command is so long. (In a file of checks a reply may stand behind it.)
+// Reports whether the text is longer than any command. (In a file of checks a reply may follow it.)
 fn is_too_long(of: LinesOf, body: &[u8]) -> bool {
     body.len() >= LINE_LIMIT && !of.has_replies()
 }
 
-/// What is wrong with a text's line of this number, from 1, which says nothing. None where nothing is seen to be, or
-/// there is no such line.
+/// Returns what is wrong with a text's line with this number, from 1, that is neither silent nor a command or test.
+/// None if nothing is found, or there is no such line.
 pub fn explain(
     alloc: Global,
     of: LinesOf,

@@ -1,4 +1,4 @@
-//! Replies, judged.
+//! Judges replies.
 
 ghost use Rattle.std.specs.Prelude.{◌≡◌, ◌+◌, ◌-◌, ◌++◌, ◌<◌, ◌^◌, codes, length, string_bytes, IfOk, OnOk};
 ghost use Rattle.std.specs.Prelude.{if◌then◌else◌};
@@ -13,7 +13,7 @@ use ll_session::reply_line;
 use ll_wire::{command_text, is_spelled};
 use std::alloc::{AllocError, Global};
 
-/// What is shown of tests.
+/// Which tests are shown.
 #[derive(Clone, Copy, Debug, PartialEq, Eq)]
 pub enum Detail {
     Quiet,
@@ -34,14 +34,14 @@ impl Detail {
     }
 }
 
-/// How many tests pass, and how many fail.
+/// The number of tests that pass, and of those that fail.
 #[derive(Clone, Copy, Debug, PartialEq, Eq)]
 pub struct Tally {
     pub passed: u64,
     pub failed: u64,
 }
 
-// What must come is written at the end.
+// Appends what is expected.
 fn push_expected(out: &mut Vec<u8>, alloc: Global, wanted: &Wanted) -> Result<(), AllocError>
     ensures { OnOk result (out.new.items ≡ out.old.items ++ expected wanted.now) }
 {
@@ -49,7 +49,7 @@ fn push_expected(out: &mut Vec<u8>, alloc: Global, wanted: &Wanted) -> Result<()
     push_wanted(out, alloc, wanted)
 }
 
-/// The line of the test's command.
+/// Returns the line of the test's command.
 pub fn command_of(alloc: Global, test: &Test) -> Result<String, AllocError>
     ensures { IfOk result (λ line. string_bytes line ≡ call_line test.now.call) }
 {
@@ -57,7 +57,7 @@ pub fn command_of(alloc: Global, test: &Test) -> Result<String, AllocError>
     command_text(alloc, test.call.client, &test.call.call)
 }
 
-// The place and the command are written at the end.
+// Appends the place and the command.
 fn push_heading(
     out: &mut Vec<u8>,
     alloc: Global,
@@ -75,7 +75,7 @@ fn push_heading(
     out.extend_from_slice(command.as_bytes())
 }
 
-// What came is written at the end.
+// Appends the reply.
 fn push_got(out: &mut Vec<u8>, alloc: Global, reply: &Reply) -> Result<(), AllocError>
     ensures { OnOk result (out.new.items ≡ out.old.items ++ (codes "got " ++ reply_line reply.now)) }
 {
@@ -85,7 +85,7 @@ fn push_got(out: &mut Vec<u8>, alloc: Global, reply: &Reply) -> Result<(), Alloc
 }
 
 impl Tally {
-    // One test more.
+    // Counts one more test.
     fn count(&mut self, passes: bool)
         requires passed { self.old.passed < 2 ^ 64 - 1 }
         requires failed { self.old.failed < 2 ^ 64 - 1 }
@@ -100,7 +100,7 @@ impl Tally {
     }
 }
 
-/// What a report says of the tests of this file, and how much of them is shown.
+/// Reports on the tests of this file, in this detail.
 #[derive(Clone, Copy)]
 pub struct Reporter<'a> {
     pub alloc: Global,
@@ -109,7 +109,7 @@ pub struct Reporter<'a> {
 }
 
 impl Reporter<'_> {
-    /// What is shown of a test, if it is shown, is written at the end.
+    /// Appends what is shown of a test, if it is shown.
     pub(crate) fn push_shown(
         &self,
         out: &mut Vec<u8>,
@@ -130,7 +130,7 @@ impl Reporter<'_> {
         push_got(out, self.alloc, reply)
     }
 
-    /// Judges a file's tests by their replies, and writes the report on them at the end.
+    /// Judges a file's tests by their replies, and appends the report on them.
     pub fn judge(
         &self,
         out: &mut Vec<u8>,

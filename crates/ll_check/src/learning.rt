@@ -33,7 +33,7 @@ use std::alloc::Global;
 use std::io::Write;
 use std::sync::Wait;
 
-/// What is to be learned from: what the words ask for, the text of the policy that they name, and the files.
+/// What is to be learned from: the options, the text of the policy that they name, and the files.
 #[derive(Clone, Copy)]
 pub struct LearnInput<'a, 'w> {
     pub options: &'a LearnOptions<'w>,
@@ -51,7 +51,7 @@ struct Request<'a> {
 }
 
 impl<'a> Request<'a> {
-    // What the words ask for.
+    // Returns what the words ask for.
     fn of_options(alloc: Global, options: &LearnOptions<'a>) -> Result<Request<'a>, Failure>
         ensures name { IfOk result (λ request. profile_name (learn_in options.now) ≡ Some request.name.now) }
         ensures most { IfOk result (λ request. request.most ≡ most_rules (learn_in options.now)) }
@@ -80,14 +80,14 @@ impl<'a> Request<'a> {
     }
 }
 
-// Who makes the lessons.
+// Returns the client that makes the lessons.
 fn learner(blank: &Setup) -> u64
     ensures { result ≡ learner blank.now }
 {
     if blank.loader.is_some() { 2 } else { 1 }
 }
 
-// The entries of the histories.
+// Returns the entries of the histories.
 fn entries_of<'a>(alloc: Global, histories: &'a [History]) -> Result<Vec<&'a [Entry]>, Failure>
     ensures entries { IfOk result (λ entries. map (λ es. es.now) entries.items
         ≡ map (λ history. history.entries) histories.entry.now) }
@@ -102,7 +102,7 @@ fn entries_of<'a>(alloc: Global, histories: &'a [History]) -> Result<Vec<&'a [En
     Ok(entries)
 }
 
-// What is learned from the histories of lessons. None where nothing is, which is told.
+// Learns from the histories of lessons. None if nothing is learned, which is printed.
 fn learned_from<E: Write>(
     alloc: Global,
     header: &Header,
@@ -129,7 +129,7 @@ fn learned_from<E: Write>(
     }
 }
 
-// What all lessons teach. None where one isn't answered as it says, or nothing is learned, which is told.
+// Learns from all lessons. None if one doesn't get the reply that it says, or nothing is learned, which is printed.
 fn taught_by<R: Wait, E: Write>(
     rt: &R,
     trees: &Trees<'_, '_>,
@@ -171,7 +171,7 @@ fn taught_by<R: Wait, E: Write>(
     learned_from(trees.alloc, &header, &taught, &aim, err)
 }
 
-// Whether there are no more rules than may be. Tells where there are.
+// Reports whether there are no more rules than allowed. Prints it if there are.
 fn are_few<E: Write>(request: &Request<'_>, profile: &LearnedProfile, err: &mut E) -> bool
     ensures few { result ≡ true → length profile.now.rules.items ≤ request.now.most }
     ensures many { result ≡ false → request.now.most < length profile.now.rules.items }
@@ -188,8 +188,8 @@ fn are_few<E: Write>(request: &Request<'_>, profile: &LearnedProfile, err: &mut 
     false
 }
 
-// The text of the profile that the files teach, and under which their tests pass. None where there is none, which is
-// told.
+// Returns the text of the profile that the files teach, and under which their tests pass. None if there is none, which
+// is printed.
 fn text_of<R: Wait, E: Write, N: Notes>(
     rt: &R,
     trees: &Trees<'_, '_>,
@@ -234,11 +234,11 @@ fn text_of<R: Wait, E: Write, N: Notes>(
     }
 }
 
-/// Learns one layer from the tests that want no denial, made where nobody has a layer, and writes it as a profile if
-/// all tests pass under it. All files are read before anything is run: where a line says nothing, that is told. What
-/// else keeps a profile from being written is told too: a file without a test, a test that isn't met, nothing that can
-/// be learned. Errors: a word is wrong, or a path of the words names nothing, or there are more rules than they allow;
-/// the policy's text gives no setup; a call of its loader is refused; `out` fails; memory ran out.
+/// Learns one layer from the tests that expect no denial, made with nobody under a layer. Writes it as a profile if all
+/// tests pass under it. All files are read before anything is run. Whatever keeps a profile from being written is
+/// printed to `err`: a bad line, a file without a test, a test that isn't met, nothing that can be learned. Errors: a
+/// word is wrong, a path of the words leads to no node, or there are more rules than they allow; the policy's text
+/// gives no setup; a call of its loader is refused; `out` fails; memory ran out.
 pub fn learn_files<R: Wait, W: Write, E: Write, N: Notes>(
     rt: &R,
     alloc: Global,

@@ -1,4 +1,4 @@
-//! Lessons: the tests that don't want a denial.
+//! Lessons: the tests that don't expect a denial.
 
 ghost use Rattle.std.specs.Prelude.{◌≡◌, codes, map, not, slice_get, string_bytes, IfErr, IfOk};
 ghost use Rattle.std.specs.List.{filter};
@@ -15,14 +15,14 @@ use ll_learn::{Notes, Origin};
 use ll_program::Failure;
 use std::alloc::{AllocError, Global};
 
-/// The lessons of a file: its name, and those of its tests.
+/// The lessons of a file: its name, and these of its tests.
 #[derive(Drop)]
 pub(crate) struct FileLessons<'a> {
     pub name: &'a str,
     pub tests: Vec<&'a Test>,
 }
 
-// Those of the tests that don't want a denial.
+// Returns the tests that don't expect a denial.
 fn picked_of<'a>(alloc: Global, tests: &'a [Test]) -> Result<Vec<&'a Test>, AllocError>
     ensures { IfOk result (λ picked.
         map (λ t. t.now) picked.items ≡ filter (λ test. not (wants_denial test.wanted)) tests.entry.now) }
@@ -37,7 +37,7 @@ fn picked_of<'a>(alloc: Global, tests: &'a [Test]) -> Result<Vec<&'a Test>, Allo
 }
 
 impl<'a> FileLessons<'a> {
-    // The lessons of a file.
+    // Returns the lessons of a file.
     fn of_file(alloc: Global, file: &'a ReadFile<'_>) -> Result<FileLessons<'a>, AllocError>
         ensures { IfOk result (λ lessons. picked lessons ≡ lessons_of (tests_of file.entry.now)) }
     {
@@ -71,7 +71,7 @@ pub(crate) fn lessons_in<'a>(
     Ok(lessons)
 }
 
-/// Returns the line on a lesson: where it stands, and its command.
+/// Returns the line on a lesson: its place, and its command. Errors: memory ran out.
 pub(crate) fn lesson_line(alloc: Global, file: &str, lesson: &Test) -> Result<String, AllocError>
     ensures { IfOk result (λ line. string_bytes line ≡ heading file.now lesson.now) }
 {
@@ -85,13 +85,13 @@ pub(crate) fn lesson_line(alloc: Global, file: &str, lesson: &Test) -> Result<St
     Ok(line)
 }
 
-/// What the comments of a profile say: which lesson an entry is of.
+/// The comments of a profile: which lesson an entry comes from.
 #[derive(Drop)]
 pub(crate) struct LessonNotes<'a, 'w> {
     pub files: &'a [FileLessons<'w>],
 }
 
-// The line on the lesson of this number, from 0.
+// Returns the line on the lesson with this number, from 0.
 fn numbered_line(alloc: Global, file: &FileLessons<'_>, number: usize) -> Result<String, AllocError>
     ensures { IfOk result (λ line. string_bytes line ≡ option_map_or (heading file.now.name.now)
         (slice_get (picked file.now).tests number) (codes "\n")) }

@@ -1,4 +1,4 @@
-//! Checks: files of commands, each with what its reply must be.
+//! Checks: files of commands, each with its expected reply.
 #![tactic(auto)]
 
 mod checking;

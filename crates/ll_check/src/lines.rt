@@ -5,7 +5,7 @@ ghost use Rattle.ll_check.specs.Checks.{body_of};
 
 use std::alloc::{AllocError, Global};
 
-/// A line without its line feed, if it has one.
+/// Returns a line without its line feed, if it has one.
 #[tactic(auto, using(crate::proofs::Bodies::if_ended, crate::proofs::Bodies::if_open, crate::proofs::Bodies::if_empty))]
 pub fn body_of(line: &[u8]) -> &[u8]
     ensures { result.now ≡ body_of line.now }
@@ -16,7 +16,7 @@ pub fn body_of(line: &[u8]) -> &[u8]
     if *last == b'\n' { body } else { line }
 }
 
-/// The bytes, and a line feed behind them.
+/// Returns the bytes with a line feed appended. Errors: memory ran out.
 pub fn ended(alloc: Global, text: &[u8]) -> Result<Vec<u8>, AllocError>
     ensures { IfOk result (λ line. line.items ≡ text.now ++ 10 ∷ []) }
 {
@@ -25,7 +25,7 @@ pub fn ended(alloc: Global, text: &[u8]) -> Result<Vec<u8>, AllocError>
     Ok(line)
 }
 
-/// What stands in a text behind this front, if it has that.
+/// Returns what follows this front in a text, if the text has it.
 pub fn strip_front<'a>(text: &'a [u8], front: &[u8]) -> Option<&'a [u8]>
     ensures found { IfSome result (λ rest. text.entry.now ≡ front.now ++ rest.now) }
     ensures none { IfNone result ((rest : List ℕ) → text.entry.now ≡ front.now ++ rest → ⊥) }
@@ -33,7 +33,7 @@ pub fn strip_front<'a>(text: &'a [u8], front: &[u8]) -> Option<&'a [u8]>
     text.strip_prefix(front)
 }
 
-/// What stands in a text before this back, if it has that.
+/// Returns what precedes this back in a text, if the text has it.
 pub fn strip_back<'a>(text: &'a [u8], back: &[u8]) -> Option<&'a [u8]>
     ensures found { IfSome result (λ front. text.entry.now ≡ front.now ++ back.now) }
     ensures none { IfNone result ((front : List ℕ) → text.entry.now ≡ front ++ back.now → ⊥) }

@@ -1,4 +1,4 @@
-//! Files of checks, read.
+//! Reads files of checks.
 
 ghost use Rattle.std.specs.Prelude.{◌≡◌, ◌<◌, ◌≤◌, ℕ, length, IfErr, IfNone, IfOk, IfSome, MatchBool, OnOk};
 ghost use Rattle.ll_wire.specs.Pieces.{pieces};
@@ -17,7 +17,7 @@ use ll_wire::{read_command, split_line};
 use std::alloc::{AllocError, Global};
 use thiserror::Error;
 
-/// A test: the line that it stands in, from 1, a call, and what its reply must be.
+/// A test: its line, from 1, a call, and the expected reply.
 #[derive(Drop)]
 pub struct Test {
     pub line: usize,
@@ -34,7 +34,7 @@ pub struct Checks {
 /// Why a file can't be checked.
 #[derive(Clone, Copy, Debug, PartialEq, Eq, Error)]
 pub enum CheckFault {
-    /// The first line that says nothing, counted from 1.
+    /// The first line that is neither silent nor a test, counted from 1.
     #[error("bad line {0}")]
     BadLine(usize),
     #[error("no memory for the tests")]
@@ -47,7 +47,7 @@ fn is_silent(body: &[u8]) -> bool
     body.iter().all(|b| *b == b' ') || body.first() == Some(&b'#')
 }
 
-// The call that the text spells, of any client that a session may have.
+// Returns the call that the text spells, of any client that a session may have.
 fn call_of(alloc: Global, text: &[u8]) -> Result<Option<ClientCall>, AllocError>
     ensures { IfOk result (Finds (SpellsCall text.now)) }
 {
@@ -59,7 +59,7 @@ fn call_of(alloc: Global, text: &[u8]) -> Result<Option<ClientCall>, AllocError>
     }
 }
 
-// The test whose command ends here, where the sign `=` stands behind it.
+// Returns the test whose command ends here, if the sign `=` follows it.
 fn test_at(
     alloc: Global,
     body: &[u8],
@@ -86,7 +86,7 @@ fn test_at(
     }
 }
 
-// The test whose command has something behind it.
+// Returns the test whose command has something after it.
 fn followed_test(alloc: Global, body: &[u8], line: usize) -> Result<Option<Test>, AllocError>
     ensures some { IfOk result (λ found. IfSome found (λ test. SpellsTest body.now test × (test.line ≡ line))) }
     ensures none { IfOk result (λ found. IfNone found ((place : ℕ) (test : Test) → place < length body.now
@@ -101,7 +101,7 @@ fn followed_test(alloc: Global, body: &[u8], line: usize) -> Result<Option<Test>
     Ok(None)
 }
 
-// The test that a line spells.
+// Returns the test that a line spells.
 fn test_of(alloc: Global, body: &[u8], line: usize) -> Result<Option<Test>, AllocError>
     ensures some { IfOk result (λ found. IfSome found (λ test. SpellsTest body.now test × (test.line ≡ line))) }
     ensures none { IfOk result (λ found. IfNone found ((test : Test) → SpellsTest body.now test → ⊥)) }
@@ -121,7 +121,7 @@ fn test_of(alloc: Global, body: &[u8], line: usize) -> Result<Option<Test>, Allo
     }
 }
 
-// Reads a line of this number, which comes after the others.
+// Reads the line with this number, and appends its test.
 fn take(tests: &mut Vec<Test>, alloc: Global, line: &[u8], number: usize) -> Result<(), CheckFault>
     ensures ok { OnOk result (TakesLine line.now number tests.old.items tests.new.items) }
     ensures bad { IfErr result (λ fault. (k : ℕ) → fault ≡ CheckFault.BadLine k
@@ -144,7 +144,8 @@ fn take(tests: &mut Vec<Test>, alloc: Global, line: &[u8], number: usize) -> Res
 }
 
 impl Checks {
-    /// The tests that a file's bytes spell. Nothing is run.
+    /// Returns the tests that a file's bytes spell. Runs nothing. Errors: the first line that is neither silent nor a
+    /// test, or memory ran out.
     pub fn read(alloc: Global, bytes: &[u8]) -> Result<Checks, CheckFault>
         ensures tests { IfOk result (λ checks. AreTests 1 (pieces bytes.now) checks.tests.items) }
         ensures bad { IfErr result (λ fault. (k : ℕ) → fault ≡ CheckFault.BadLine k

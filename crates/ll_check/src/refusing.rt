@@ -1,12 +1,12 @@
-//! What is told of a profile that is refused.
+//! What is printed about a refused profile.
 
 use ll_seq::{Call, Entry, Reply};
 use ll_session::reply_line;
 use ll_wire::{command_text, is_spelled, reply_text_behind};
 use std::alloc::{AllocError, Global};
 
-/// How far a client has come with its profile's calls: the number of the layer that it makes, from 1, and how many of
-/// that layer's rules have come.
+/// How many of its profile's calls a client has made: the number of the current layer, from 1, and how many of that
+/// layer's rules.
 #[derive(Clone, Copy)]
 pub struct ProfileProgress {
     layer: u64,
@@ -14,12 +14,12 @@ pub struct ProfileProgress {
 }
 
 impl ProfileProgress {
-    /// Of a client that has connected.
+    /// Returns the progress of a client that has connected.
     pub fn at_connect() -> ProfileProgress {
         ProfileProgress { layer: 0, rules: 0 }
     }
 
-    /// With this call, or at another client's connect.
+    /// Returns the progress after this call, or at another client's connect.
     pub fn after(self, call: &Call) -> ProfileProgress {
         match call {
             Call::Connect => ProfileProgress::at_connect(),
@@ -35,7 +35,7 @@ impl ProfileProgress {
         }
     }
 
-    // Which rule of which layer the newest call is.
+    // Returns which rule of which layer the last call is.
     fn place(self, alloc: Global, call: &Call) -> Result<String, AllocError> {
         let ProfileProgress { layer, rules } = self;
         match call {
@@ -45,12 +45,12 @@ impl ProfileProgress {
     }
 }
 
-/// Whether the reply tells that nothing was done.
+/// Reports whether the reply is a refusal or a denial.
 pub fn is_refused(reply: &Reply) -> bool {
     matches!(reply, Reply::Refused(_) | Reply::Denied(_))
 }
 
-/// The line of a call and the reply to it.
+/// Returns the line of a call and its reply. Errors: memory ran out.
 pub fn answered_text(alloc: Global, call: &Call, reply: &Reply) -> Result<String, AllocError> {
     let called = match call {
         Call::Connect => String::from_str(alloc, "connect")?,
@@ -65,8 +65,8 @@ pub fn answered_text(alloc: Global, call: &Call, reply: &Reply) -> Result<String
     Ok(text)
 }
 
-/// The line of a profile's call, with which the client has come so far: which rule of which layer it is, the call and
-/// the reply to it.
+/// Returns the line on a profile's call, for a client with this progress: which rule of which layer it is, the call and
+/// its reply. Errors: memory ran out.
 pub fn profile_call_text(
     alloc: Global,
     progress: ProfileProgress,
@@ -78,7 +78,7 @@ pub fn profile_call_text(
     format!(in alloc; "{place}: {answered}")
 }
 
-/// Tells that a profile is refused: of which of its calls, and by which reply. No contract says how.
+/// Appends that a profile is refused: at which of its calls, and with which reply. No contract says how.
 pub fn push_refusal(
     out: &mut Vec<u8>,
     alloc: Global,

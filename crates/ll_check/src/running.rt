@@ -1,4 +1,4 @@
-//! Tests, made.
+//! Makes tests.
 
 ghost use Rattle.std.specs.Prelude.{◌≡◌, All, map, IfErr, IfOk};
 ghost use Rattle.ll_session.specs.CallsRun.{Makes};
@@ -12,7 +12,7 @@ use ll_wire::SessionFault;
 use std::alloc::{AllocError, Global};
 use std::sync::Wait;
 
-// The calls of the tests.
+// Returns the calls of the tests.
 fn calls_of(alloc: Global, tests: &[Test]) -> Result<Vec<ClientCall>, AllocError>
     ensures { IfOk result (λ calls. calls.items ≡ map (λ test. test.call) tests.now) }
 {
@@ -23,7 +23,7 @@ fn calls_of(alloc: Global, tests: &[Test]) -> Result<Vec<ClientCall>, AllocError
     Ok(calls)
 }
 
-// The calls of the lessons.
+// Returns the calls of the lessons.
 fn calls_of_lessons(alloc: Global, lessons: &[&Test]) -> Result<Vec<ClientCall>, AllocError>
     ensures { IfOk result (λ calls. calls.items ≡ map (λ test. test.call) (map (λ t. t.now) lessons.now)) }
 {
@@ -34,7 +34,8 @@ fn calls_of_lessons(alloc: Global, lessons: &[&Test]) -> Result<Vec<ClientCall>,
     Ok(calls)
 }
 
-/// Makes the calls of a file's tests in a tree of its own. The history of that is left.
+/// Makes the calls of a file's tests in a tree of its own. Returns the replies and the tree's history. Errors: a fault
+/// of the run, or memory ran out.
 pub fn make<R: Wait>(
     rt: &R,
     alloc: Global,
@@ -52,7 +53,7 @@ pub fn make<R: Wait>(
     }
 }
 
-/// Makes the calls of a file's lessons in a tree of its own. The history of that is left.
+/// Makes the calls of a file's lessons in a tree of its own. Returns the replies and the tree's history.
 pub(crate) fn make_lessons<R: Wait>(
     rt: &R,
     alloc: Global,

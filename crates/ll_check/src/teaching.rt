@@ -1,4 +1,4 @@
-//! Lessons, made.
+//! Makes lessons.
 
 ghost use Rattle.std.specs.Prelude.{◌≡◌, ◌↔◌, true, map, IfErr, IfOk, IfSome, IsTrue};
 ghost use Rattle.std.specs.List.{AllZip};
@@ -18,14 +18,14 @@ use ll_session::CallReplies;
 use std::io::Write;
 use std::sync::Wait;
 
-// Whether the reply is as the lesson wants it, and the call stands in the history.
+// Reports whether the reply is as the lesson says, and the call has an entry in the history.
 fn is_learned_from(lesson: &Test, reply: &Reply) -> bool
     ensures { IsTrue result ↔ IsLearnedFrom lesson.now reply.now }
 {
     lesson.wanted.is_met(reply) && is_allowed(reply)
 }
 
-// Tells of a lesson that isn't answered as it says.
+// Prints a lesson that doesn't get the reply that it says.
 fn tell_unmet<E: Write>(reporter: &Reporter<'_>, lesson: &Test, reply: &Reply, err: &mut E) {
     let mut report = Vec::new(reporter.alloc);
     if reporter
@@ -36,7 +36,7 @@ fn tell_unmet<E: Write>(reporter: &Reporter<'_>, lesson: &Test, reply: &Reply, e
     }
 }
 
-// Tells that a file's tree isn't opened.
+// Prints that a file's tree isn't opened.
 fn tell_refusal<E: Write>(reporter: &Reporter<'_>, history: &History, reply: &Reply, err: &mut E) {
     let mut report = Vec::new(reporter.alloc);
     if push_refusal(
@@ -52,7 +52,7 @@ fn tell_refusal<E: Write>(reporter: &Reporter<'_>, history: &History, reply: &Re
     }
 }
 
-// Whether each reply is as its lesson wants it. Tells of the first that isn't.
+// Reports whether each reply is as its lesson says. Prints the first that isn't.
 fn are_met<E: Write>(
     reporter: &Reporter<'_>,
     lessons: &[&Test],
@@ -75,7 +75,7 @@ fn are_met<E: Write>(
     true
 }
 
-// The same of lessons that were made so. Tells where they weren't.
+// Reports whether all lessons were made, and each reply is as its lesson says. Prints it if not.
 fn are_answered<E: Write>(
     reporter: &Reporter<'_>,
     lessons: &[&Test],
@@ -94,8 +94,8 @@ fn are_answered<E: Write>(
     }
 }
 
-// The history of a file's lessons, which are made in a tree of its own. None where one isn't answered as it says, which
-// is told.
+// Returns the history of a file's lessons, which are made in a tree of its own. None if one doesn't get the reply that
+// it says, which is printed.
 fn teach<R: Wait, E: Write>(
     rt: &R,
     trees: &Trees<'_, '_>,
@@ -127,8 +127,8 @@ fn teach<R: Wait, E: Write>(
     }
 }
 
-/// Returns the histories of all files' lessons, each of a tree of its own. None where a lesson isn't answered as it
-/// says, which is told.
+/// Returns the histories of all files' lessons, each of a tree of its own. None if a lesson doesn't get the reply that
+/// it says, which is printed.
 pub(crate) fn teach_all<R: Wait, E: Write>(
     rt: &R,
     trees: &Trees<'_, '_>,

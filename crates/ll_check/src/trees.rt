@@ -1,4 +1,4 @@
-//! The trees in which lessons are made, and profiles tried.
+//! The trees in which lessons are made, and profiles are tried.
 
 ghost use Rattle.std.specs.Prelude.{◌≡◌, IfErr, IfOk};
 ghost use Rattle.ll_session.specs.Session.{AreOthers};
@@ -11,7 +11,7 @@ use ll_seq::Call;
 use ll_session::Setup;
 use std::alloc::Global;
 
-/// What the trees are set up by: the options of `learn`, and the text of the policy that they name.
+/// What sets up the trees: the options of `learn`, and the text of the policy that they name.
 #[derive(Clone, Copy)]
 pub(crate) struct Trees<'a, 'w> {
     pub alloc: Global,
@@ -19,7 +19,7 @@ pub(crate) struct Trees<'a, 'w> {
     pub policy: &'a [u8],
 }
 
-// The setup whose first client makes these calls.
+// Returns the setup whose first client makes these calls.
 fn with_profile(mut setup: Setup, profile: Vec<Call>) -> Setup
     requires { AreOthers profile.items }
     ensures rules { result.rules ≡ setup.rules }
@@ -32,7 +32,8 @@ fn with_profile(mut setup: Setup, profile: Vec<Call>) -> Setup
 }
 
 impl Trees<'_, '_> {
-    /// Returns the setup that the policy gives, where nobody gets a layer.
+    /// Returns the setup that the policy gives, with nobody under a layer. Errors: the policy's text gives no setup, or
+    /// memory ran out.
     pub fn blank(&self) -> Result<Setup, Failure>
         ensures setup { IfOk result (IsBlank (learn_in self.now.options.now) self.now.policy.now) }
         ensures failure { IfErr result (FailsToMake (learn_in self.now.options.now) self.now.policy.now) }
@@ -44,7 +45,8 @@ impl Trees<'_, '_> {
         }
     }
 
-    /// Returns the setup of a tree with room for so many tests, before which the first client makes these calls.
+    /// Returns the setup of a tree with room for this many tests, before which the first client makes these calls.
+    /// Errors: those of `blank`.
     pub fn tree(&self, profile: Vec<Call>, tests: usize) -> Result<Setup, Failure>
         requires { AreOthers profile.items }
         ensures setup { IfOk result (IsTree (learn_in self.now.options.now) self.now.policy.now profile.items tests) }

@@ -1,4 +1,4 @@
-//! A profile, tried: all tests of files, made under it.
+//! Tries a profile: makes all tests of files under it.
 
 ghost use Rattle.std.specs.Prelude.{◌≡◌, true, map, IfErr, IfOk};
 ghost use Rattle.std.specs.List.{AllByRecursion};
@@ -16,7 +16,7 @@ use ll_program::{Failure, header_of};
 use std::io::Write;
 use std::sync::Wait;
 
-// Whether all tests of a file pass where its first client has the profile's layer. Tells of those that don't.
+// Reports whether all tests of a file pass if its first client has the profile's layer. Prints those that don't.
 fn passes_under<R: Wait, E: Write, N: Notes>(
     rt: &R,
     trees: &Trees<'_, '_>,
@@ -55,7 +55,7 @@ fn passes_under<R: Wait, E: Write, N: Notes>(
     Ok(checked.tally.failed == 0)
 }
 
-/// Reports whether all tests of all files pass so. Tells of those that don't.
+/// Reports whether all tests of all files pass like this. Prints those that don't.
 pub(crate) fn pass_under<R: Wait, E: Write, N: Notes>(
     rt: &R,
     trees: &Trees<'_, '_>,

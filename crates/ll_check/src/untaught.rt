@@ -1,4 +1,4 @@
-//! Why nothing is learned from lessons, told. No contract says how.
+//! Prints why nothing is learned from lessons. No contract says how.
 
 use crate::lessons::{FileLessons, lesson_line};
 use crate::reading::Test;
@@ -15,7 +15,7 @@ pub(crate) struct Taught<'a, 'w> {
     pub histories: &'a [&'a [Entry]],
 }
 
-// What is wrong, and where: in which history, and at which of its entries.
+// Returns what is wrong, and where: in which history, and at which of its entries.
 fn words_of(fault: Unlearned, aim: &Aim) -> (usize, Option<usize>, &'static str) {
     match fault {
         Unlearned::NoClient(history) => (history, None, "no client connects"),
@@ -43,7 +43,7 @@ fn words_of(fault: Unlearned, aim: &Aim) -> (usize, Option<usize>, &'static str)
 }
 
 impl<'a> Taught<'a, '_> {
-    // The lesson whose call is this entry of this history, and its file's name.
+    // Returns the lesson whose call is this entry of this history, and its file's name.
     fn lesson(&self, client: u64, history: usize, entry: usize) -> Option<(&'a str, &'a Test)> {
         let cut = cut_of(self.histories.get(history)?, client)?;
         let number = entry.checked_sub(cut)?.checked_sub(1)?;
@@ -52,7 +52,7 @@ impl<'a> Taught<'a, '_> {
         Some((file.name, lesson))
     }
 
-    // The line on why nothing is learned.
+    // Returns the line on why nothing is learned.
     fn line(&self, alloc: Global, fault: Unlearned, aim: &Aim) -> Result<String, AllocError> {
         let (history, entry, words) = words_of(fault, aim);
         if let Some(entry) = entry
@@ -71,7 +71,7 @@ impl<'a> Taught<'a, '_> {
         }
     }
 
-    /// Tells why nothing is learned.
+    /// Prints why nothing is learned.
     pub fn tell<E: Write>(&self, alloc: Global, fault: Unlearned, aim: &Aim, err: &mut E) {
         if let Ok(line) = self.line(alloc, fault, aim) {
             let _ = err.write_all(line.as_bytes());

@@ -1,4 +1,4 @@
-//! What the reply to a test's command must be.
+//! The expected reply to a test's command.
 
 ghost use Rattle.std.specs.Prelude.{◌≡◌, ◌↔◌, ◌++◌, ◌<◌, IfOk, IsTrue, OnOk, codes, List, ℕ};
 ghost use Rattle.std.specs.List.{join_with_byte};
@@ -18,12 +18,12 @@ use ll_session::reply_line;
 use ll_wire::{FirstWords, first_words_text, read_first_words, read_reply};
 use std::alloc::{AllocError, Global};
 
-/// What the reply to a command must be.
+/// The expected reply to a command.
 #[derive(Drop)]
 pub enum Wanted {
-    /// Any that neither refuses nor denies.
+    /// Any reply but a refusal or a denial.
     Success,
-    /// Any that the tree gives and that denies nothing, whatever else it refuses.
+    /// Any reply of the tree but a denial, including refusals.
     Allowed,
     /// A denial.
     Denied,
@@ -31,7 +31,7 @@ pub enum Wanted {
     DeniedRight(Right),
     /// A denial of this right at this place.
     DeniedAt(Right, Place),
-    /// This one.
+    /// Exactly this one.
     Whole(Reply),
     /// One that begins with these words.
     First(FirstWords),
@@ -43,7 +43,7 @@ fn is_success(reply: &Reply) -> bool
     !matches!(reply, Reply::Refused(_) | Reply::Denied(_))
 }
 
-/// Whether the tree has answered so, and no layer denies the call.
+/// Reports whether the reply is the tree's own, and no layer denies the call.
 pub(crate) fn is_allowed(reply: &Reply) -> bool
     ensures { result ≡ is_allowed reply.now }
 {
@@ -55,7 +55,7 @@ pub(crate) fn is_allowed(reply: &Reply) -> bool
 }
 
 impl Wanted {
-    /// Whether a denial is wanted, or what begins as one.
+    /// Reports whether a denial is expected, or the first words of one.
     pub fn is_denial(&self) -> bool
         ensures { result ≡ wants_denial self.now }
     {
@@ -67,7 +67,7 @@ impl Wanted {
         }
     }
 
-    /// Whether the reply is as wanted.
+    /// Reports whether the reply is as expected.
     pub fn is_met(&self, reply: &Reply) -> bool
         ensures { IsTrue result ↔ Satisfies self.now reply.now }
     {
@@ -116,7 +116,7 @@ fn denied_at(text: &[u8]) -> Option<(Right, Place)>
     }
 }
 
-/// What is wanted of the layers, where the text says that.
+/// Returns the verdict of the layers that the text expects, if it spells one.
 pub fn verdict_of(text: &[u8]) -> Option<Wanted>
     ensures { Finds (SpellsVerdict text.now) result }
 {
@@ -136,7 +136,7 @@ pub fn verdict_of(text: &[u8]) -> Option<Wanted>
     }
 }
 
-// The first words, where the text has them, and ` ..` behind them.
+// Returns the first words, if the text has them, followed by ` ..`.
 fn first_words_of(alloc: Global, text: &[u8]) -> Result<Option<FirstWords>, AllocError>
     ensures { IfOk result (Finds (λ words. (front : List ℕ) × (text.now ≡ front ++ codes " ..")
         × SpellsFirst front words)) }
@@ -162,7 +162,7 @@ fn reply_of(alloc: Global, text: &[u8]) -> Result<Option<Reply>, AllocError>
     }
 }
 
-/// What must come, where the text behind the sign `=` says that.
+/// Returns the expected reply that the text after the sign `=` spells. Errors: memory ran out.
 pub fn read_wanted(alloc: Global, text: &[u8]) -> Result<Option<Wanted>, AllocError>
     ensures { IfOk result (Finds (SpellsWanted text.now)) }
 {
@@ -188,7 +188,7 @@ fn push_denied(out: &mut Vec<u8>, right: Right, place: &[u8]) -> Result<(), Allo
     out.extend_from_slice(place)
 }
 
-/// The line of what is wanted is written at the end.
+/// Appends the line of what is expected. Errors: memory ran out.
 pub fn push_wanted(out: &mut Vec<u8>, alloc: Global, wanted: &Wanted) -> Result<(), AllocError>
     ensures { OnOk result (out.new.items ≡ out.old.items ++ (wanted_text wanted.now ++ codes "\n")) }
 {

@@ -1,4 +1,4 @@
--- Layers as a C program that confines itself so: a table between fixed parts. ISO/IEC 9899, "String literals"
+-- Layers as a C program that enforces them: a table between fixed parts. ISO/IEC 9899, "String literals"
 use Rattle.std.specs.Prelude.{ℕ, ◌+◌, ◌/◌, ◌%◌, ◌==◌, Bool, not, ◌&&◌, List, [], ◌∷◌, ◌++◌, codes, nat_le}
 use Rattle.std.specs.Prelude.{Option, Some, None, unwrap_or}
 use Rattle.std.specs.Prelude.{if◌then◌else◌}
@@ -15,18 +15,18 @@ use Rattle.ll_commands.specs.declared.confinement.Confinement.{Confinement}
 use Rattle.ll_commands.specs.Confinement.{kind_at}
 use Rattle.ll_commands.specs.Fixed.{c_head, c_helpers, c_tail, restrict_self}
 
--- a printed character of ASCII that isn't a quotation mark, a question mark or a backslash (34, 63, 92)
+-- a printable character of ASCII except the quotation mark, the question mark and the backslash (34, 63, 92)
 abbrev pub is_plain : ℕ → Bool
 is_plain b = (nat_le 32 b && nat_le b 126) && (not (b == 34) && (not (b == 63) && not (b == 92)))
 
--- any other byte is a backslash and its three digits in base 8
+-- any other byte becomes a backslash and its three octal digits
 abbrev pub c_byte : ℕ → List ℕ
 c_byte b = if is_plain b then b ∷ [] else 92 ∷ (48 + b / 64) ∷ (48 + b / 8 % 8) ∷ (48 + b % 8) ∷ []
 
 abbrev pub c_string : List ℕ → List ℕ
 c_string text = 34 ∷ flat_map c_byte text ++ 34 ∷ []
 
--- inode(7). No file has the type 0
+-- the constant of inode(7). No file has the type 0
 abbrev pub c_type : Option Kind → List ℕ
 c_type (Some Reg) = codes "S_IFREG"
 c_type (Some Dir) = codes "S_IFDIR"
@@ -37,7 +37,7 @@ c_type (Some Char) = codes "S_IFCHR"
 c_type (Some Block) = codes "S_IFBLK"
 c_type None = codes "0"
 
--- a row of the table: what it is of which type, a path, and rights
+-- a row of the table: what it is, the file's type, a path, and rights
 abbrev pub c_row : List ℕ → List ℕ → ℕ → List ℕ
 c_row start path rights = concat (
     codes "    {" ∷ start ∷ codes ", " ∷ c_string path ∷ codes ", \"" ∷ access_text rights ∷ codes "\"},\n" ∷ [])
@@ -46,7 +46,7 @@ abbrev pub c_rule : List Call → Rule → List ℕ
 c_rule opening rule =
     c_row (concat (codes "RULE, " ∷ c_type (kind_at opening rule.path) ∷ [])) rule.path rule.rights.0
 
--- the rights that the layer handles, and below them its rules
+-- the rights that the layer handles, and then its rules
 abbrev pub c_layer : List Call → Layer → List ℕ
 c_layer opening layer = c_row (codes "LAYER, 0") [] layer.handled.0 ++ flat_map (c_rule opening) layer.rules.items
 
@@ -75,11 +75,11 @@ c_options order = concat (
     ∷ c_denied (unwrap_or order.deny nothing_denied)
     ∷ [])
 
--- the root of the file system stands for the policy's where no directory is named
+-- without a directory, the policy's root is the root of the file system
 abbrev pub root_of : ExportOrder → List ℕ
 root_of order = unwrap_or order.root (codes "/")
 
--- these texts as the program's values
+-- the source text of these values
 unfoldable pub c_values : (root also options : List ℕ) → List ℕ
 c_values root also options = concat (
     codes "/* The directory that stands for the policy's root. */\nstatic const char root[] = " ∷ root
@@ -91,13 +91,13 @@ c_values root also options = concat (
 abbrev pub c_place : ExportOrder → List ℕ
 c_place order = c_values (c_string (root_of order)) (flat_map c_path order.also) (c_options order)
 
--- these rows as a table
+-- the source text of the table with these rows
 unfoldable pub c_rows : List ℕ → List ℕ
 c_rows rows = concat (
     codes "/* The profile's layers, oldest first. */\nstatic const struct row rows[] = {\n" ∷ rows
     ∷ codes "    {END, 0, \"\", \"\"},\n};\n\n" ∷ [])
 
--- the layers, oldest first. What is the same for all layers stands around both
+-- the layers, oldest first, between the parts that are the same for all layers
 unfoldable pub c_text : ExportOrder → Confinement → List ℕ
 c_text order c = concat (
     c_head ∷ c_place order ∷ c_rows (flat_map (c_layer c.opening.now) c.layers.now)

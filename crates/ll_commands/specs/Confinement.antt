@@ -13,7 +13,7 @@ use Rattle.ll_policy.specs.declared.profile.Rule.{Rule}
 use Rattle.ll_policy.specs.declared.profile.Layer.{Layer}
 use Rattle.ll_commands.specs.declared.confinement.Confinement.{Confinement}
 
--- the kind of the node that the call makes at this path
+-- the kind of the node that the call creates at this path
 abbrev pub made_at : List ℕ → Call → Option Kind
 made_at path (Make kind (Good made)) = if bytes_eq (path_text made) path then Some kind else None
 made_at path call = None
@@ -22,20 +22,20 @@ abbrev pub first_of : Option Kind → Option Kind → Option Kind
 first_of (Some kind) later = Some kind
 first_of None later = later
 
--- the kind of the first node that a call makes at this path
+-- the kind of the first node that a call creates at this path
 abbrev pub kind_among : List ℕ → List Call → Option Kind
 kind_among path [] = None
 kind_among path (call ∷ calls) = first_of (made_at path call) (kind_among path calls)
 
--- the root is a directory, which no call makes
+-- the root is a directory, which no call creates
 abbrev pub kind_at : List Call → List ℕ → Option Kind
 kind_at calls path = if bytes_eq path (codes "/") then Some Dir else kind_among path calls
 
--- the layer handles what the rule grants, and the policy makes a node at the rule's path
+-- the layer handles what the rule allows, and the policy creates a node at the rule's path
 abbrev pub is_sound_rule : List Call → ℕ → Rule → Bool
 is_sound_rule opening handled rule = is_within rule.rights.0 handled && is_some (kind_at opening rule.path)
 
--- the layer handles a right, and none that its level doesn't know
+-- the layer handles a right, and only rights that its level knows
 abbrev pub is_sound_layer : ℕ → List Call → Layer → Bool
 is_sound_layer abi opening layer = (not (layer.handled.0 == 0) && is_within layer.handled.0 (known_set abi))
     && list_all (is_sound_rule opening layer.handled.0) layer.rules.items

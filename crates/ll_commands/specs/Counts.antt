@@ -1,4 +1,4 @@
--- What is counted of connections, and how that is told. own
+-- What is counted of connections, and its text. own
 use Rattle.std.specs.Prelude.{ℕ, ◌+◌, ◌-◌, ◌^◌, ◌++◌, List, codes, decimal, min}
 use Rattle.ll_session.specs.Counts.{nothing}
 use Rattle.ll_commands.specs.declared.counts.Counts.{Counts}
@@ -6,11 +6,11 @@ use Rattle.ll_commands.specs.declared.counts.Counts.{Counts}
 abbrev pub none : Counts
 none = record { clients = 0; tally = nothing }
 
--- the sum, as far as 64 bits go
+-- the sum, at most 2^64 - 1
 abbrev pub add : ℕ → ℕ → ℕ
 add a b = min (a + b) (2 ^ 64 - 1)
 
--- what both have counted
+-- the sum of both
 abbrev pub plus : Counts → Counts → Counts
 plus a b = record {
   clients = add a.clients b.clients;

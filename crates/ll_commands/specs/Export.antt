@@ -27,8 +27,8 @@ abbrev pub export_text : ExportOrder → Form → Confinement → List ℕ
 export_text order C c = c_text order c
 export_text order Json c = json_text order c
 
--- these are the policy's level, the calls that make its nodes, and the layers of the profile, where the policy's file
--- has this text, with which nothing is wrong
+-- the policy's level, the calls that create its nodes, and the layers of the profile, if the policy's file has this
+-- text without a fault
 pub record IsOfPolicy (name text : List ℕ) (c : Confinement) : Type 0 where
   pub plan : Plan
   pub utf8 : IsUtf8 text
@@ -38,15 +38,15 @@ pub record IsOfPolicy (name text : List ℕ) (c : Confinement) : Type 0 where
   pub opening : c.opening.now ≡ plan.opening
   pub calls : Some (calls_of_layers 0 c.layers.now) ≡ profile_of (Some name) plan
 
--- The text that is wanted, where the policy's file has this text: of layers that can be enforced
+-- the text asked for, if the policy's file has this text: of layers that can be enforced
 abbrev pub IsExport : ExportOrder → (text written : List ℕ) → Type 0
 IsExport order text written =
     (form : Form) × (c : Confinement) × (order.form ≡ Some form) × (fits_export order ≡ true)
     × IsOfPolicy order.profile text c × (is_enforceable c ≡ true) × (written ≡ export_text order form c)
 
--- Why nothing is written: words that don't go together; a profile that a right policy hasn't, or whose layers can't be
--- enforced; the first of what is wrong with the policy's text, as each run by it lacks it too; a file that can't be
--- read or written; want of memory
+-- Why nothing is written: words that don't go together; a profile that the policy doesn't have, or whose layers can't
+-- be enforced; the first fault of the policy's text, which each run by it has too; a file that can't be read or
+-- written; NoMemory
 abbrev pub MayFail : ExportOrder → List ℕ → Failure → Type 0
 MayFail order text CommandLine =
     (fits_export order ≡ false)
@@ -59,7 +59,7 @@ MayFail order text Output = ⊤
 MayFail order text Socket = ⊥
 MayFail order text NoMemory = ⊤
 
--- how an export ends whose checks end so, if nothing fails
+-- how an export ends after its checks ended like this, if nothing fails
 abbrev pub ended_by : Checked → Conclusion
 ended_by checked.Passed = Done
 ended_by end = conclusion.Checked end

@@ -268,7 +268,7 @@ c_helpers = concat (
     ∷ codes "\n"
     ∷ [])
 
--- the call that enforces a layer: without it the program would run unconfined
+-- the call that enforces a layer: without it the command would run unconfined
 unfoldable pub restrict_self : List ℕ
 restrict_self = concat (
     codes "/* Enforces a layer. */\n"
@@ -281,7 +281,7 @@ restrict_self = concat (
     ∷ codes "\n"
     ∷ [])
 
--- what it does
+-- the part that enforces the table's layers and becomes the command
 unfoldable pub c_tail : List ℕ
 c_tail = concat (
     codes "/* Enforces the layer of this row and its rules, and counts it. Returns the next row. */\n"

@@ -15,15 +15,15 @@ use Rattle.ll_commands.specs.declared.confinement.Confinement.{Confinement}
 use Rattle.ll_commands.specs.Confinement.{kind_at}
 use Rattle.ll_commands.specs.CProgram.{root_of}
 
--- as serde_json writes a string
+-- a string as serde_json writes it
 abbrev pub json_string : List ℕ → List ℕ
 json_string text = compact_text (string text)
 
--- a name, in which no character needs a backslash
+-- a name without characters that need a backslash
 abbrev pub quoted : List ℕ → List ℕ
 quoted name = concat (codes "\"" ∷ name ∷ codes "\"" ∷ [])
 
--- the rights of a set, by their names in rising order
+-- the names of the rights in a set, in their order
 abbrev pub json_names : ℕ → List ℕ
 json_names set = join_by quoted (codes ", ") (set_names set)
 

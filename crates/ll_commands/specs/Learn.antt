@@ -36,19 +36,19 @@ use Rattle.ll_program.specs.declared.failure.Failure.TheVariants.{NoMemory}
 use Rattle.ll_commands.specs.declared.learn.Learned.{Learned}
 use Rattle.ll_commands.specs.declared.learn.Learned.TheVariants as learned
 
--- ---- What is aimed at
+-- ---- What is to be learned
 
 -- the clients that connect, in order
 abbrev pub connected : List Entry → List ℕ
 connected es = map (λ e. e.client) (filter (λ e. is_connect e.call) es)
 
--- the second of them: the first makes a policy's nodes. Where there is no second, the first, and else the client 1
+-- The second of them, as the first creates a policy's nodes. Without a second, the first; without any, client 1
 abbrev pub client_among : List ℕ → ℕ
 client_among [] = 1
 client_among (first ∷ []) = first
 client_among (first ∷ second ∷ others) = second
 
--- for the client that is told, or that one: all rights of the history's level, but those of --never
+-- for the given client, or that one: all rights of the history's level, except those of `--never`
 pub record IsAim (order : LearnOrder) (h : Header) (es : List Entry) (aim : Aim) : Type 0 where
   pub client : aim.client ≡ unwrap_or order.client (client_among (connected es))
   pub handled : aim.handled.0 ≡ known_set (version_rules h.version).abi
@@ -62,11 +62,11 @@ pub record Teaches (order : LearnOrder) (text : List ℕ) (h : Header) (es : Lis
 
 -- ---- What is learned
 
--- the number of an entry behind so many others; no list in memory is so long that it would be another
+-- the number of an entry after this many others. (No list in memory is long enough to exceed the limit)
 abbrev pub number_behind : ℕ → ℕ → ℕ
 number_behind cut entry = min (cut + entry) (2 ^ 64 - 1)
 
--- the line on an entry of a history, of which so many are in front of the cut: its number in the whole, and its call
+-- the line on an entry of a history after the cut: its number in the whole history, and its call
 abbrev pub entry_note : ℕ → List Entry → Origin → List ℕ
 entry_note cut es origin =
     let number = number_behind cut origin.entry in
@@ -74,7 +74,7 @@ entry_note cut es origin =
     (λ (e : Entry). concat (codes "entry " ∷ decimal number ∷ codes ": " ∷ line_of (call_tokens e.call) ∷ []))
     (slice_get es (number - 1)) (codes "\n")
 
--- the profile that is learned behind so many of the entries is told, if it hasn't too many rules
+-- the profile that is learned after the cut is reported, if it doesn't have too many rules
 abbrev pub IsTold : LearnOrder → List Entry → ℕ → LearnedProfile → Learned → Type 0
 IsTold order es cut profile (learned.Profile text) =
     (length profile.rules.items ≤ most_rules order) × (name : List ℕ) × (profile_name order ≡ Some name)
@@ -99,13 +99,13 @@ pub record IsProfileText (order : LearnOrder) (text written : List ℕ) : Type 0
   pub named : profile_name order ≡ Some name
   pub is : written ≡ profile_text (entry_note cut entries) name profile
 
--- nothing is learned from it, and why
+-- nothing is learned from it, for this reason
 abbrev pub TeachesNothing : LearnOrder → List ℕ → Unlearned → Type 0
 TeachesNothing order text fault =
     (h : Header) × (es : List Entry) × (aim : Aim) × Teaches order text h es aim
     × IsUnlearned (opened h) (es ∷ []) aim fault
 
--- the profile that is learned from it has so many rules, which is more than it may have
+-- the profile that is learned from it has this many rules, which is too many
 abbrev pub TeachesMuch : LearnOrder → List ℕ → ℕ → Type 0
 TeachesMuch order text rules =
     (h : Header) × (es : List Entry) × (aim : Aim) × (profile : LearnedProfile) × Teaches order text h es aim
@@ -117,14 +117,14 @@ IsLearnedOf order text (learned.BadLine line) = IsFirstBad (pieces text) line
 IsLearnedOf order text (learned.Nothing fault) = TeachesNothing order text fault
 IsLearnedOf order text (learned.Many rules) = TeachesMuch order text rules
 
--- words of the command line ask for what can't be: a name that no profile may have, rights that aren't spelled so, a
--- path that isn't spelled so, or one that names nothing
+-- the words ask for something impossible: an invalid profile name, badly spelled rights, a badly spelled path, or a
+-- path that leads to no node
 abbrev pub IsMisaimed : LearnOrder → List ℕ → Type 0
 IsMisaimed order text =
     (profile_name order ≡ None) ⊎ IsWithheld order.never None ⊎ HasBadWord order.beneath
     ⊎ ((index : ℕ) × TeachesNothing order text (NoNode index))
 
--- why nothing is known of the history with this text: the words, the file, or want of memory
+-- why nothing is known of the history with this text: the words, the file, or NoMemory
 abbrev pub LacksLesson : LearnOrder → List ℕ → Failure → Type 0
 LacksLesson order text CommandLine = IsMisaimed order text
 LacksLesson order text (Policy fault) = ⊥
@@ -136,8 +136,8 @@ LacksLesson order text NoMemory = ⊤
 
 -- ---- How it ends
 
--- A profile of the history with this text is written whole, or a beginning of it where the output fails. Else nothing
--- is written there: the history has a bad line, nothing is learned from it, or the profile has too many rules
+-- A profile of the history with this text is written whole, or a prefix of it if the output fails. Otherwise nothing is
+-- written there: the history has a bad line, nothing is learned from it, or the profile has too many rules
 abbrev pub IsLearning : LearnOrder → List ℕ → (out out' : Option (List ℕ)) → Result Conclusion Failure → Type 0
 IsLearning order text out out' (Ok Done) = Writes out out' (IsProfileText order text)
 IsLearning order text out out' (Ok (Stopped stopped)) = ⊥
@@ -158,7 +158,7 @@ IsLearning order text out out' (Err Output) =
 IsLearning order text out out' (Err Socket) = ⊥
 IsLearning order text out out' (Err NoMemory) = out' ≡ out
 
--- Words that don't go together are refused; else it ends so, where the history that is named has its text
+-- Words that don't go together are refused. Otherwise it ends as above, if the named history has this text
 abbrev pub EndsLearn : (texts : Option (List ℕ) → Option (List ℕ)) → LearnOrder → Result Conclusion Failure → Type 0
 EndsLearn texts order result =
     ((fits_learn order ≡ false) × (result ≡ Err CommandLine))

@@ -1,4 +1,4 @@
--- The loader, which comes before all streams, told by what it and its children know. own
+-- The loader, which comes before all streams, in terms of what it and its children know. own
 use Rattle.std.specs.Prelude.{◌≡◌, ◌<◌, ◌+◌, ℕ, length, List, [], ◌∷◌, Option, None, Some}
 use Rattle.std.specs.declared.alloc.Global.{Global}
 use Rattle.std.specs.declared.vec.Vec.{Vec}
@@ -12,18 +12,18 @@ use Rattle.ll_session.specs.Beside.{MakesBeside, StopsBeside}
 abbrev pub HasBegun : Knows → Type 0
 HasBegun me = HasCome me × (0 < me.seen)
 
--- how many entries the loader has then: one of its connect, and one of each call
+-- how many entries the loader then has: one for its connect, and one for each call
 abbrev pub entry_count : Option (Vec Call Global) → ℕ
 entry_count None = 0
 entry_count (Some calls) = length calls.items + 1
 
 module _ (limit : ℕ) where
-  -- the loader has made its calls, if there is one, and none was refused
+  -- the loader, if there is one, has made its calls, and none was refused
   abbrev pub HasLoaded : Option (Vec Call Global) → List Knows → Type 0
   HasLoaded None ks = ks ≡ []
   HasLoaded (Some calls) ks = (me : Knows) × HasBegun me × MakesBeside limit (me ∷ []) 0 calls.items ks
 
-  -- one of them was
+  -- one of them was refused
   abbrev pub WasStopped : Option (Vec Call Global) → List Knows → Type 0
   WasStopped None ks = ⊥
   WasStopped (Some calls) ks =

@@ -1,4 +1,4 @@
--- A tree, opened by a policy. own
+-- A tree that was opened with a policy. own
 use Rattle.std.specs.Prelude.{◌≡◌, ◌⊎◌, ⊤, ℕ, true, false, List, [], ◌∷◌, Option, Some, None}
 use Rattle.std.specs.declared.vec.Vec.{Vec}
 use Rattle.std.specs.declared.alloc.Global.{Global}
@@ -31,7 +31,7 @@ Stops client s [] = ⊥
 Stops client s (call ∷ calls) =
     IsRefusedThere client s call ⊎ ((mid : State) × MakesOne client s call mid × Stops client mid calls)
 
--- a client that wasn't there connects, and makes these calls
+-- a new client connects, and makes these calls
 abbrev pub Comes : ℕ → State → List Call → State → Type 0
 Comes client s calls t = (has s.clients client ≡ false) × Makes client s (Connect ∷ calls) t
 
@@ -39,7 +39,7 @@ abbrev pub Loads : State → Option (Vec Call Global) → State → Type 0
 Loads s None t = t ≡ s
 Loads s (Some calls) t = (loader : ℕ) × Comes loader s calls.items t
 
--- In a new tree a loader comes, if there is one, and then the client of the profile
+-- in a new tree the loader comes, if there is one, and then the client of the profile
 abbrev pub Opens : Setup → ℕ → State → Type 0
 Opens setup client t =
     (loaded : State) × Loads (start setup.rules setup.nodes) setup.loader loaded
@@ -56,7 +56,7 @@ IsStopped setup =
     ⊎ ((loaded : State) × Loads (start setup.rules setup.nodes) setup.loader loaded
     × (client : ℕ) × Stops client loaded (Connect ∷ setup.profile.items))
 
--- memory ran out, or this is so
+-- memory ran out, or this holds
 abbrev pub FailsSo : Type 0 → Failure → Type 0
 FailsSo P failure.Opening = P
 FailsSo P failure.NoMemory = ⊤

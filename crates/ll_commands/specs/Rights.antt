@@ -1,4 +1,4 @@
--- The rights of a policy's profile, told as a table. own
+-- The rights of a policy's profile, as a table. own
 use Rattle.std.specs.Prelude.{◌≡◌, ◌⊎◌, ⊤, ℕ, Bool, List, [], ◌∷◌, ◌++◌, map, codes, Option, Some, None}
 use Rattle.std.specs.Prelude.{IfSome, Result, Ok, Err, false, option_to_list}
 use Rattle.std.specs.List.{flat_map}
@@ -41,7 +41,7 @@ abbrev pub target_path : Target → Option Path
 target_path (Good path) = Some path
 target_path (Bad word) = None
 
--- the path of the node that the call makes, if it makes one
+-- the path of the node that the call creates, if any
 abbrev pub made_path : Call → Option Path
 made_path (Make kind target) = target_path target
 made_path (Open mode target) = None
@@ -68,24 +68,23 @@ made_path Connect = None
 abbrev pub made_paths : List Call → List Path
 made_paths = flat_map (λ call. option_to_list (made_path call))
 
--- the paths that the words name, or where there is none those of the policy's nodes
+-- the paths that the words name, or without words those of the policy's nodes
 abbrev pub paths_told : List Text → Setup → List Path
 paths_told [] setup = option_map_or (λ calls. made_paths calls.items) setup.loader []
 paths_told (word ∷ words) setup = map path_of_text (word ∷ words)
 
--- the tree whose first client is the one that is asked about
+-- the tree whose first client is asked about
 abbrev pub table_tree : RightsOrder → TreeOrder
 table_tree order = profile_tree order.policy order.profile order.nodes
 
--- The table of the profile's rights, where the policy's file has this text: those of its client when it has confined
--- itself
+-- the table of the profile's rights, if the policy's file has this text: those of its client after it confined itself
 abbrev pub IsTable : RightsOrder → List ℕ → List ℕ → Type 0
 IsTable order text table =
     (setup : Setup) × (client : ℕ) × (s : State) × IsSetup (table_tree order) text setup × Opens setup client s
     × AreRows s (client_of s client).domain order.layers (paths_told order.paths setup) table
 
 -- Why there is no table: a word spells no path; there is no setup; a call that the policy asks for is refused; the file
--- can't be read; want of memory
+-- can't be read; NoMemory
 abbrev pub LacksTable : RightsOrder → List ℕ → Failure → Type 0
 LacksTable order text CommandLine = HasBadWord order.paths ⊎ Lacks (table_tree order) text CommandLine
 LacksTable order text (Policy fault) = Lacks (table_tree order) text (Policy fault)
@@ -95,11 +94,11 @@ LacksTable order text Output = ⊥
 LacksTable order text Socket = ⊥
 LacksTable order text NoMemory = ⊤
 
--- why no table is written whole, where the policy's file has this text
+-- why no table is written whole, if the policy's file has this text
 abbrev pub MayFail : RightsOrder → List ℕ → (out out' : Option (List ℕ)) → Failure → Type 0
 MayFail order text out out' failure = FailsToTell (IsTable order text) (LacksTable order text) out out' failure
 
--- The table is that of the policy that the words name, and is written; or it isn't written whole
+-- the table of the policy that the words name is written; or it isn't written whole
 abbrev pub EndsRights : (texts : Option (List ℕ) → Option (List ℕ)) → RightsOrder → Result Conclusion Failure → Type 0
 EndsRights texts order (Ok Done) =
     (text : List ℕ) × IfSome (texts (Some order.policy)) (λ told. text ≡ told)
@@ -111,6 +110,6 @@ EndsRights texts order (Err failure) =
     (text : List ℕ) × IfSome (texts (Some order.policy)) (λ told. text ≡ told)
     × (out out' : Option (List ℕ)) × MayFail order text out out' failure
 
--- the text is behind what was there, and holds a line for each path
+-- the text has a line for each path appended
 abbrev pub AddsRows : State → List Layer → Bool → List Path → (old new : List ℕ) → Type 0
 AddsRows s domain layers paths old new = (rows : List ℕ) × AreRows s domain layers paths rows × (new ≡ old ++ rows)

@@ -20,36 +20,36 @@ use Rattle.ll_session.specs.PartySession.{Session}
 use Rattle.ll_wire.specs.Grammar.{line_of}
 use Rattle.ll_wire.specs.Writing.{AppendsFront}
 
--- the line that tells the port
+-- the line with the port
 abbrev pub listening : ℕ → List ℕ
 listening port = line_of (codes "listening" ∷ decimal port ∷ [])
 
--- the entries begin with those that the loader's calls have on a fresh tree, if there is a loader: none is refused
+-- the entries begin with those of the loader's calls on a new tree, if there is a loader: none is refused
 abbrev pub BeginsLoaded : Setup → List Entry → Type 0
 BeginsLoaded setup entries =
     (opened : Session) × (rest : List Entry) × Loads (fresh setup) setup.loader (made opened)
     × (entries ≡ opened.entries ++ rest)
 
--- Streams were served on the tree, which was closed with these entries: first those of the loader, if there is one. All
--- its clients are the loader and others
+-- Streams were served on the tree, which was closed with these entries: first the loader's, if there is one. All its
+-- clients are the loader and others
 abbrev pub IsServed : Setup → List Entry → Type 0
 IsServed setup entries =
     BeginsLoaded setup entries × (loaded others : List Knows) × HasLoaded setup.history setup.loader loaded
     × IsClosed setup.rules setup.nodes setup.history entries (loaded ++ others)
 
--- Streams were served on the tree that is wanted, where the policy's file has this text: the port was told, and nothing
--- else; and the history is saved, where a file is named
+-- Streams were served on the tree asked for, if the policy's file has this text. The port was written, and nothing
+-- else. The history is saved, if a file is named
 abbrev pub IsDone : ServeOrder → List ℕ → (out out' blank file file' : Option (List ℕ)) → Type 0
 IsDone order text out out' blank file file' =
     (setup : Setup) × (entries : List Entry) × IsSetup (served_tree order) text setup × IsServed setup entries
     × Appends out out' (listening order.port) × IsSaved order.save setup entries blank file file'
 
--- the loader's calls may all be made on the fresh tree, if there is one
+-- the loader's calls, if there is a loader, may all be made on the new tree
 abbrev pub MayLoad : Setup → Type 0
 MayLoad setup = (loaded : Session) × Loads (fresh setup) setup.loader (made loaded)
 
--- No streams are served on the tree of this setup by this failure: before a port is bound and told, the loader's calls
--- are made. Memory may be wanted before that and after it
+-- Why no streams are served on the tree with this setup. Before a port is bound and written, the loader's calls are
+-- made. Memory may run out before that and after it
 abbrev pub MayStop : Setup → (port : ℕ) → (out out' : Option (List ℕ)) → Failure → Type 0
 MayStop setup port out out' CommandLine = ⊥
 MayStop setup port out out' (Policy fault) = ⊥
@@ -59,8 +59,8 @@ MayStop setup port out out' Output = MayLoad setup × AppendsFront out out' (lis
 MayStop setup port out out' File = ⊥
 MayStop setup port out out' NoMemory = (out' ≡ out) ⊎ Appends out out' (listening port)
 
--- Why streams aren't served to the end and the history saved: a policy is named, and there is no setup by it; or the
--- tree of that setup isn't served on; or the history that is to be saved can't be. What stood in the file stays
+-- Why streams aren't served to the end and the history saved: a policy is named, and gives no setup; or no streams are
+-- served on the tree; or the history can't be saved. The file then keeps its old contents
 abbrev pub MayFail : ServeOrder → List ℕ → (out out' file file' : Option (List ℕ)) → Failure → Type 0
 MayFail order text out out' file file' failure =
     ((is_some order.policy ≡ true) × Lacks (served_tree order) text failure × (out' ≡ out) × (file' ≡ file))
@@ -71,7 +71,7 @@ MayFail order text out out' file file' failure =
 
 -- ---- Support of the functions below `serve`
 
--- With this loader and these clients of the tree: no stream comes by this failure
+-- with this loader and these clients of the tree, no stream is served because of this failure
 module _ (limit port : ℕ) (loader : Option (Vec Call Global)) (ks : List Knows) where
   abbrev pub EndsEarly : (out out' : Option (List ℕ)) → Failure → Type 0
   EndsEarly out out' CommandLine = ⊥

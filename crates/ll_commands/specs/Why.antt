@@ -1,4 +1,4 @@
--- What `why` tells, of an entry of a history or of a command. own
+-- What `why` prints, for an entry of a history or for a command. own
 use Rattle.std.specs.Prelude.{◌≡◌, ◌⊎◌, ⊤, ℕ, false, List, [], ◌∷◌, ◌++◌, codes, Option, Some, None, Result, Ok, Err}
 use Rattle.std.specs.Prelude.{IfSome, string_bytes}
 use Rattle.clap.specs.Words.{Text}
@@ -31,12 +31,12 @@ use Rattle.ll_why.specs.declared.history.HistoryWhy.TheVariants as history
 use Rattle.ll_commands.specs.declared.why.Answer.{Answer}
 use Rattle.ll_commands.specs.declared.why.Answer.TheVariants.{Told, BadLine}
 
--- the command, what the tree answers, and what policy says of it
+-- the command, the tree's reply, and what policy says of it
 abbrev pub command_text : Call → Reply → Explanation → List ℕ
 command_text call reply told =
     line_of (call_tokens call) ++ line_of (codes "answered" ∷ reply_tokens reply) ++ told_text call told
 
--- the text is of a call of this client's in this state of a tree of this level, and of what its step answers
+-- the text on a call of this client in this state of a tree of this level, with its step's reply
 pub record IsCallWhy (level : ℕ) (s : State) (client : ℕ) (call : Call) (text : List ℕ) : Type 0 where
   pub told : Explanation
   pub reply : Reply
@@ -44,11 +44,11 @@ pub record IsCallWhy (level : ℕ) (s : State) (client : ℕ) (call : Call) (tex
   pub answered : (fresh : ℕ) × (has s.clients fresh ≡ false) × (reply ≡ (step s client call fresh).0)
   pub is : text ≡ command_text call reply told
 
--- the word is a command's line, but for the line feed (10)
+-- the word is a command's line, without the line feed (10)
 abbrev pub IsCommand : Text → Call → Type 0
 IsCommand word call = SpellsCommand (word ++ 10 ∷ []) 1 call
 
--- the text is of the command that the word spells, in a new tree by the policy with this text
+-- the text on the command that the word spells, in a new tree by the policy with this text
 pub record IsCommandWhy (tree : TreeOrder) (policy word text : List ℕ) : Type 0 where
   pub setup : Setup
   pub client : ℕ
@@ -67,7 +67,7 @@ abbrev pub CommandAnswers : TreeOrder → (word file : List ℕ) → Answer → 
 CommandAnswers tree word file (Told text) = IsCommandWhy tree file word (string_bytes text)
 CommandAnswers tree word file (BadLine line) = ⊥
 
--- what is answered, where the file of the history or the policy has this text
+-- the answer, if the file of the history or the policy has this text
 abbrev pub Answers : ℕ → Option Asked → List ℕ → Answer → Type 0
 Answers nodes None file answer = ⊥
 Answers nodes (Some (of_entry name number)) file answer = EntryAnswers number file answer
@@ -81,7 +81,7 @@ abbrev pub answer_text : Answer → List ℕ
 answer_text (Told text) = string_bytes text
 answer_text (BadLine line) = verdict_line (verdict.BadLine line)
 
--- what a bad line concludes is what an audit of it does
+-- a bad line is concluded as an audit would
 abbrev pub conclusion_of : Answer → Conclusion
 conclusion_of (Told text) = Done
 conclusion_of (BadLine line) = Judged (verdict.BadLine line)
@@ -90,13 +90,13 @@ conclusion_of (BadLine line) = Judged (verdict.BadLine line)
 abbrev pub IsTold : WhyOrder → (file written : List ℕ) → Type 0
 IsTold order file written = (answer : Answer) × IsAnswer order file answer × (written ≡ answer_text answer)
 
--- so much is written, and so it is concluded
+-- this is written, and this is the conclusion
 abbrev pub IsToldSo : WhyOrder → List ℕ → Conclusion → List ℕ → Type 0
 IsToldSo order file conclusion written =
     (answer : Answer) × IsAnswer order file answer × (written ≡ answer_text answer)
     × (conclusion ≡ conclusion_of answer)
 
--- why an entry isn't told of: the history has none of this number; its file can't be read; want of memory
+-- why an entry isn't explained: the history has none with this number; its file can't be read; NoMemory
 abbrev pub EntryFails : ℕ → List ℕ → Failure → Type 0
 EntryFails number file CommandLine = IsHistoryWhy (pieces file) number history.NoEntry
 EntryFails number file (Policy fault) = ⊥
@@ -106,8 +106,8 @@ EntryFails number file Output = ⊥
 EntryFails number file Socket = ⊥
 EntryFails number file NoMemory = ⊤
 
--- why a command isn't: the word spells none; there is no setup; a call that the policy asks for is refused; and as
--- above
+-- why a command isn't explained: the word spells none; there is no setup; a call that the policy asks for is refused;
+-- and as above
 abbrev pub CommandFails : TreeOrder → (word file : List ℕ) → Failure → Type 0
 CommandFails tree word file CommandLine =
     ((call : Call) → IsCommand word call → ⊥) ⊎ Lacks tree file CommandLine
@@ -118,7 +118,7 @@ CommandFails tree word file Output = ⊥
 CommandFails tree word file Socket = ⊥
 CommandFails tree word file NoMemory = ⊤
 
--- where nothing is asked, the words are wrong
+-- without a question, the words are wrong
 abbrev pub Fails : ℕ → Option Asked → List ℕ → Failure → Type 0
 Fails nodes None file failure = failure ≡ CommandLine
 Fails nodes (Some (of_entry name number)) file failure = EntryFails number file failure
@@ -128,7 +128,7 @@ Fails nodes (Some (of_command policy profile word)) file failure =
 abbrev pub LacksAnswer : WhyOrder → List ℕ → Failure → Type 0
 LacksAnswer order file failure = Fails order.nodes (asked_by order) file failure
 
--- why no answer is written whole, where the file has this text
+-- why no answer is written whole, if the file has this text
 abbrev pub MayFail : WhyOrder → List ℕ → (out out' : Option (List ℕ)) → Failure → Type 0
 MayFail order file out out' failure = FailsToTell (IsTold order file) (LacksAnswer order file) out out' failure
 
@@ -138,7 +138,7 @@ file_asked None = None
 file_asked (Some (of_entry history number)) = named history
 file_asked (Some (of_command policy profile word)) = Some policy
 
--- What is asked is told of the file that the words name, or the history's first bad line is; or it isn't written whole
+-- the answer on the file that the words name is written, or the history's first bad line; or it isn't written whole
 abbrev pub EndsWhy : (texts : Option (List ℕ) → Option (List ℕ)) → WhyOrder → Result Conclusion Failure → Type 0
 EndsWhy texts order (Ok conclusion) =
     (file : List ℕ) × IfSome (texts (file_asked (asked_by order))) (λ told. file ≡ told)

@@ -1,4 +1,4 @@
-//! The two ends of a connection, with a room for their bytes.
+//! The two ends of a connection, with a limit for their bytes.
 
 use crate::room::Room;
 use crate::trouble::Trouble;
@@ -6,7 +6,7 @@ use std::alloc::{AllocError, Global};
 use std::io;
 use std::io::{ErrorKind, Read, Write};
 
-/// A connection's reader, the room that its bytes take, and why it couldn't be read.
+/// A connection's reader, the room that its bytes use, and why it couldn't be read.
 #[derive(Drop)]
 pub struct Heard<R> {
     reader: R,
@@ -17,7 +17,7 @@ pub struct Heard<R> {
 impl<R: Read> Read for Heard<R> {
     ghost remaining = { λ heard. R.remaining heard.reader };
 
-    // A room that is used up is a failed read, so that no line goes on behind it.
+    // After the room is used up, a read fails, so that no line is read after that.
     fn read(&mut self, buf: &mut [u8]) -> io::Result<usize> {
         if self.room.is_used_up() {
             self.trouble = Some(Trouble::RoomUsedUp);
@@ -36,7 +36,7 @@ impl<R: Read> Read for Heard<R> {
     }
 }
 
-/// A connection's writer, the room that its bytes take, and why no more could be written.
+/// A connection's writer, the room that its bytes use, and why no more could be written.
 #[derive(Drop)]
 pub struct Told<W> {
     writer: W,
@@ -47,7 +47,7 @@ pub struct Told<W> {
 impl<W: Write> Write for Told<W> {
     ghost contents = { λ told. W.contents told.writer };
 
-    // Only whole lines are written with the last of the room.
+    // With the last of the room, only whole lines are written.
     fn write(&mut self, buf: &[u8]) -> io::Result<usize> {
         let fitting = self.room.fitting(buf);
         if fitting == 0 && !buf.is_empty() {
@@ -71,7 +71,7 @@ impl<W: Write> Write for Told<W> {
     }
 }
 
-/// Returns both ends of a connection with a room of so many megabytes. Errors: no memory.
+/// Returns both ends of a connection with this much room, in megabytes. Errors: memory ran out.
 pub(crate) fn bounded<R: Drop, W: Drop>(
     alloc: Global,
     megabytes: u64,
@@ -92,7 +92,7 @@ pub(crate) fn bounded<R: Drop, W: Drop>(
     Ok((heard, told))
 }
 
-/// Returns why a connection of these two ends couldn't go on, if one of them tells it.
+/// Returns why a connection with these two ends couldn't go on, if one of them knows.
 pub(crate) fn trouble_of<R, W>(heard: &Heard<R>, told: &Told<W>) -> Option<Trouble> {
     told.trouble.or(heard.trouble)
 }

@@ -191,7 +191,7 @@ fn c_options(alloc: Global, options: &ExportOptions) -> Result<String, AllocErro
     )
 }
 
-/// Returns the directory that stands for the policy's root.
+/// Returns the directory that is the policy's root.
 pub(crate) fn root_of<'a>(options: &ExportOptions<'a>) -> &'a str
     ensures { result.now ≡ root_of (exported_in options.now) }
 {

@@ -13,7 +13,7 @@ use ll_session::are_entries;
 use ll_walk::Gate;
 use std::sync::Wait;
 
-/// Returns the history of the tree. `clients` must be all its clients. Each entry can be spelled.
+/// Returns the history of the tree. `clients` must be all its clients. Each entry has a spelling.
 pub(crate) fn close<N: Shape, H: Wait, G: Gate<N>>(
     rt: &H,
     tree: Tree<N, G>,

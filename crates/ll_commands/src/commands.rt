@@ -1,4 +1,4 @@
-//! Why a command does what it does, in a new tree of a policy.
+//! Explains a command in a new tree of a policy.
 
 ghost use Rattle.std.specs.Prelude.{◌≡◌, ◌<◌, ◌-◌, ◌^◌, ◌++◌, ◌∷◌, ◌⊎◌, ◌↔◌, [], ℕ, true, false, IfErr, IfOk, IsTrue};
 ghost use Rattle.std.specs.Prelude.{IfSome, length, string_bytes};
@@ -25,7 +25,7 @@ fn wants_memory(reply: &Reply) -> bool
     matches!(reply, Reply::Refused(Errno::NoMemory))
 }
 
-// The line of a command.
+// Returns the line of a command.
 fn line_of(alloc: Global, word: &str) -> Result<String, AllocError>
     ensures { IfOk result (λ line. string_bytes line ≡ word.now ++ 10 ∷ []) }
 {
@@ -34,7 +34,7 @@ fn line_of(alloc: Global, word: &str) -> Result<String, AllocError>
     Ok(line)
 }
 
-/// The call that the word spells.
+/// Returns the call that the word spells. Errors: it spells none, or memory ran out.
 pub(crate) fn call_of(alloc: Global, word: &str) -> Result<Call, Failure>
     ensures call { IfOk result (IsCommand word.now) }
     ensures bad { IfErr result (λ failure. failure ≡ Failure.CommandLine
@@ -51,7 +51,7 @@ pub(crate) fn call_of(alloc: Global, word: &str) -> Result<Call, Failure>
     }
 }
 
-// The command, what the tree answers, and what policy says of it.
+// Returns the text with the command, the tree's reply, and what policy says of it.
 fn command_text(
     alloc: Global,
     call: &Call,
@@ -68,7 +68,7 @@ fn command_text(
     Ok(text)
 }
 
-// What is told of the client's call in the tree, which is of this level and is used up.
+// Returns the text on the client's call in the tree, which has this level and can't be used afterwards.
 fn call_why(
     alloc: Global,
     mut tree: Plain,
@@ -93,14 +93,14 @@ fn call_why(
     command_text(alloc, call, &reply, &told)
 }
 
-// Does nothing: it tells only that no list in memory is longer.
+// Does nothing when it runs. Its contract: no list in memory is longer.
 fn fits(calls: &[Call])
     ensures { length calls.now < 2 ^ 62 }
 {
     let _calls = calls;
 }
 
-// Does nothing: it tells the same of the loader's calls.
+// Does nothing when it runs. Its contract: the loader's calls aren't more than a list in memory can have.
 fn loader_fits(loader: &Option<Vec<Call>>)
     ensures { IfSome loader.now (λ calls. length calls.items < 2 ^ 62) }
 {
@@ -109,7 +109,8 @@ fn loader_fits(loader: &Option<Vec<Call>>)
     }
 }
 
-/// What is told of the call in a new tree that is set up so.
+/// Returns the text on the call in a new tree with this setup. Errors: a call of the setup is refused, or memory ran
+/// out.
 pub(crate) fn told_of_setup(alloc: Global, setup: &Setup, call: &Call) -> Result<String, Failure>
     requires { is_connect call.now ≡ false }
     ensures told { IfOk result (λ text. (client : ℕ) × (s : State) × Opens setup.now client s

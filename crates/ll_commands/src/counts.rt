@@ -8,7 +8,7 @@ use ll_session::{Served, Tally};
 use std::fmt;
 use std::fmt::Display;
 
-/// How many clients came, and what their sessions have counted.
+/// The number of clients, and what their sessions have counted.
 #[derive(Clone, Copy, Debug, PartialEq, Eq)]
 pub(crate) struct Counts {
     pub(crate) clients: u64,
@@ -27,7 +27,7 @@ impl Counts {
         }
     }
 
-    /// What the session of this stream has counted.
+    /// Returns what the session of this stream has counted.
     pub(crate) fn of<N: Shape, R, W>(served: &Served<N, R, W>) -> Counts
         ensures { result ≡ record { clients = length served.now.clients.items; tally = served.now.outcome.tally } }
     {
@@ -37,7 +37,7 @@ impl Counts {
         }
     }
 
-    /// What both have counted.
+    /// Returns the sum of both.
     pub(crate) fn plus(self, other: Counts) -> Counts
         ensures { result ≡ plus self other }
     {

@@ -1,4 +1,4 @@
-//! What `learn` learns from a saved history.
+//! Learns from a saved history.
 
 ghost use Rattle.std.specs.Prelude.{◌≡◌, ◌∷◌, ◌⊎◌, ℕ, List, [], Err, IfErr, IfOk, IfSome, None};
 ghost use Rattle.ll_wire.specs.Pieces.{pieces};
@@ -20,19 +20,19 @@ use ll_why::call_line;
 use std::alloc::{AllocError, Global};
 use std::io::{Read, Write};
 
-/// What is learned from a history.
+/// The result of learning from a history.
 #[derive(Drop)]
 pub enum Learned {
     /// The profile's text.
     Profile(String),
-    /// The first line of the history that is of no form, counted from 1.
+    /// The first malformed line of the history, counted from 1.
     BadLine(usize),
     Nothing(Unlearned),
-    /// The profile would have so many rules, which is more than it may have.
+    /// The profile would have this many rules, which is too many.
     Many(usize),
 }
 
-// The comments on the entries of a history behind a cut.
+// The comments on the entries of a history after a cut.
 #[derive(Drop)]
 struct EntryNotes<'a> {
     entries: &'a [Entry],
@@ -53,7 +53,7 @@ impl Notes for EntryNotes<'_> {
     }
 }
 
-// The client that is learned for where none is told: the second that connects, or else the first.
+// Returns the client that is learned for by default: the second that connects, or else the first.
 fn client_of(entries: &[Entry]) -> u64
     ensures { result ≡ client_among (connected entries.now) }
 {
@@ -69,7 +69,7 @@ fn client_of(entries: &[Entry]) -> u64
     first.unwrap_or(1)
 }
 
-// The profile that is learned behind so many of the entries, as it is told.
+// Returns the result for the profile that is learned after this many entries.
 fn told(
     alloc: Global,
     options: &LearnOptions,
@@ -95,7 +95,7 @@ fn told(
     }
 }
 
-// What the history teaches with this aim.
+// Returns what the history teaches with this aim.
 fn learned_for(
     alloc: Global,
     options: &LearnOptions,
@@ -121,7 +121,7 @@ fn learned_for(
     }
 }
 
-// What the history teaches.
+// Returns what the history teaches.
 fn learned_of(alloc: Global, options: &LearnOptions, saved: &Saved) -> Result<Learned, Failure>
     ensures learned { IfOk result (λ learned. (text : List ℕ)
         → Tell (pieces text) saved.now.header saved.now.entries.items
@@ -147,7 +147,7 @@ fn learned_of(alloc: Global, options: &LearnOptions, saved: &Saved) -> Result<Le
     learned_for(alloc, options, saved, &aim)
 }
 
-/// Learns from the saved history in this file.
+/// Learns from the saved history in this file. Errors: a word is wrong, the file can't be read, or memory ran out.
 pub fn learn_history<R: Read>(
     alloc: Global,
     options: &LearnOptions,
@@ -172,7 +172,7 @@ pub fn learn_history<R: Read>(
     }
 }
 
-// The number of the history's entry that it is about, and what is wrong there.
+// Returns the number of the history's entry at fault, if any, and what is wrong there.
 fn fault_of(fault: Unlearned) -> (Option<usize>, &'static str) {
     match fault {
         Unlearned::NoClient(_) => (None, "no such client connects"),
@@ -192,7 +192,7 @@ fn fault_of(fault: Unlearned) -> (Option<usize>, &'static str) {
     }
 }
 
-// The line on why nothing is learned from the history of this name.
+// Returns the line on why nothing is learned from the history with this name.
 fn fault_line(alloc: Global, name: &str, fault: Unlearned) -> Result<String, AllocError> {
     match fault_of(fault) {
         (None, words) => format!(in alloc; "{name}: {words}\n"),
@@ -203,13 +203,13 @@ fn fault_line(alloc: Global, name: &str, fault: Unlearned) -> Result<String, All
     }
 }
 
-// The line on rules that are too many.
+// Returns the line on too many rules.
 fn many_line(alloc: Global, options: &LearnOptions, rules: usize) -> Result<String, AllocError> {
     let most = options.most_rules();
     format!(in alloc; "{rules} rules, {most} may be: --most {RULESET_INODES}, or --beneath DIR\n")
 }
 
-// Tells why nothing is written to the output, and ends so.
+// Prints why nothing is written to the output. Returns how the command ends.
 fn refused<E: Write>(
     err: &mut E,
     line: Result<String, AllocError>,
@@ -224,7 +224,8 @@ fn refused<E: Write>(
     end
 }
 
-/// Writes the profile to the output, or else one line on why there is none to the other.
+/// Writes the profile to the output; or, if there is none, prints one line on why to `err`. Errors: the output failed,
+/// or memory ran out.
 pub fn tell_learned<W: Write, E: Write>(
     alloc: Global,
     options: &LearnOptions,

@@ -1,5 +1,5 @@
-//! The commands but run, check and audit: serve, rights, why, learn, schedule, export, as the program's words ask for
-//! them.
+//! The commands except run, check and audit: serve, rights, why, learn, schedule, export, as the program's words ask
+//! for them.
 #![tactic(auto)]
 
 mod bounded;

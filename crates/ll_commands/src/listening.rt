@@ -21,7 +21,7 @@ use std::alloc::{AllocError, Global};
 use std::io::Write;
 use std::sync::Wait;
 
-// The line that tells the port.
+// Returns the line with the port.
 fn port_line(alloc: Global, port: u16) -> Result<String, AllocError>
     ensures { IfOk result (λ line. string_bytes line ≡ listening port) }
 {
@@ -29,7 +29,7 @@ fn port_line(alloc: Global, port: u16) -> Result<String, AllocError>
     line_text(alloc, "listening", &[number.as_str()])
 }
 
-// Tells the port.
+// Writes the line with the port.
 fn tell_port<W: Write>(alloc: Global, port: u16, out: &mut W) -> Result<(), Failure>
     ensures ok { OnOk result (Appends (W.contents out.old) (W.contents out.new) (listening port)) }
     ensures err { IfErr result (λ failure. ((failure ≡ Failure.NoMemory) × (W.contents out.new ≡ W.contents out.old))
@@ -42,8 +42,9 @@ fn tell_port<W: Write>(alloc: Global, port: u16, out: &mut W) -> Result<(), Fail
     write_text(line.as_str(), out)
 }
 
-/// The loader comes to a fresh tree, if there is one, and makes its calls; then the port is bound, and told. Whatever
-/// streams come from there.
+/// Adds the loader to a new tree, if there is one, and makes its calls. Then binds the port, and writes its line.
+/// Returns the listener, whose streams come next. Errors: a call of the loader is refused, the port can't be bound, the
+/// output failed, or memory ran out.
 pub(crate) fn listen<N: Shape, H: Wait, G: Gate<N>, B: Binds, W: Write>(
     rt: &H,
     alloc: Global,

@@ -15,7 +15,7 @@ use ll_session::{Party, make_calls};
 use ll_walk::Gate;
 use std::sync::Wait;
 
-/// How many entries the loader has when it has made its calls.
+/// Returns how many entries the loader has after it made its calls.
 pub(crate) fn entry_count(loader: &Option<Vec<Call>>) -> usize
     ensures { result ≤ entry_count loader.now }
 {
@@ -25,15 +25,15 @@ pub(crate) fn entry_count(loader: &Option<Vec<Call>>) -> usize
     }
 }
 
-// Whether each of these clients knows of at most so many entries.
+// Reports whether each of these clients knows of at most this many entries.
 fn know_at_most<N: Shape>(clients: &[Client<N>], entries: u64) -> bool
     ensures { IsTrue result ↔ All (λ c. c.rider.seen ≤ entries) clients.now }
 {
     clients.iter().all(|client| client.seen() <= entries)
 }
 
-/// Does nothing if these clients know of at most so many entries, as the loader does, since nobody else has come. Else
-/// waits forever.
+/// Does nothing if these clients know of at most this many entries, as the loader does, since nobody else has come.
+/// Otherwise waits forever.
 pub(crate) fn knows_only<N: Shape, H: Wait>(rt: &H, clients: &[Client<N>], entries: usize)
     ensures { All (λ c. c.rider.seen ≤ entries) clients.now }
 {
@@ -43,7 +43,7 @@ pub(crate) fn knows_only<N: Shape, H: Wait>(rt: &H, clients: &[Client<N>], entri
     }
 }
 
-// The first client comes. A fresh tree has a place for it, so only memory may be wanted.
+// Adds the first client. A new tree has a place for it, so only memory may run out.
 fn come<N: Shape, H: Wait, G: Gate<N>>(
     rt: &H,
     tree: &Tree<N, G>,
@@ -62,8 +62,8 @@ fn come<N: Shape, H: Wait, G: Gate<N>>(
     }
 }
 
-/// To a fresh tree the loader comes, if there is one, and makes its calls. Errors: NoMemory where it can't come, and
-/// Opening where one of its calls is refused.
+/// Adds the loader to a new tree, if there is one, and makes its calls. Errors: NoMemory if it can't come, and Opening
+/// if one of its calls is refused.
 pub(crate) fn load<N: Shape, H: Wait, G: Gate<N>>(
     rt: &H,
     tree: &Tree<N, G>,

@@ -1,4 +1,4 @@
-//! What is told of connections on standard error.
+//! What is printed of connections on standard error.
 
 ghost use Rattle.std.specs.Prelude.{◌≡◌, length};
 ghost use Rattle.ll_commands.specs.Counts.{plus};
@@ -17,17 +17,17 @@ use std::io;
 use std::io::Write;
 use std::sync::{Mutex, Wait};
 
-/// How much is told.
+/// How much is printed.
 #[derive(Clone, Copy, Debug, PartialEq, Eq)]
 enum Telling {
     Nothing,
-    /// How many connections are open, in one line that is written again and again.
+    /// The number of open connections, in one line that is written again and again.
     Open,
     /// A line for each that comes or goes, and the totals.
     Lines,
 }
 
-// What was told so far, and where. Nobody is told that it can't be written.
+// The counts so far, and where they are printed. Failed writes are ignored.
 #[derive(Drop)]
 struct Desk<E> {
     alloc: Global,
@@ -59,7 +59,7 @@ impl<E: Write> Desk<E> {
         self.tell_open();
     }
 
-    // Tells what a connection has counted, and how it has ended.
+    // Prints what a connection has counted, and how it ended.
     fn tell_end<D: Display>(&mut self, number: u64, counts: Counts, end: &D)
         ensures { self.new.total ≡ self.old.total }
     {
@@ -123,8 +123,8 @@ impl<E: Write> Desk<E> {
     }
 }
 
-/// Tells of connections, as they come and go and at the end: where the options ask for a log, a line each, and else,
-/// where somebody watches, how many are open.
+/// Prints connections as they come and go, and the totals at the end. A line for each, if the options ask for a log;
+/// otherwise the number of open ones, if somebody watches.
 #[derive(Drop)]
 pub struct Log<'a, H, E> {
     rt: &'a H,
@@ -152,12 +152,12 @@ impl<'a, H: Wait, E: Write> Log<'a, H, E> {
         Log { rt, desk }
     }
 
-    /// One couldn't be accepted.
+    /// Prints that one couldn't be accepted.
     pub(crate) fn missed(&self, error: &io::Error) {
         self.desk.lock(self.rt).missed(error);
     }
 
-    /// No more connections come.
+    /// Prints the end: no more connections come.
     pub(crate) fn end(&self) {
         self.desk.lock(self.rt).end();
     }

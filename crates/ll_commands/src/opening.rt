@@ -1,4 +1,4 @@
-//! A tree, opened by a policy.
+//! A tree that is opened with a policy.
 
 ghost use Rattle.std.specs.Prelude.{◌≡◌, ◌<◌, ◌≤◌, ◌+◌, ◌-◌, ◌^◌, ◌∷◌, ℕ, true, false, not, length, OnOk, IfOk, IfErr};
 ghost use Rattle.std.specs.Prelude.{IfSome};
@@ -16,7 +16,7 @@ use ll_seq::{Call, Reply};
 use ll_session::Setup;
 use std::alloc::Global;
 
-// Makes the client's call.
+// Makes the client's call. Errors: it is refused.
 fn make_one(tree: &mut Plain, client: u64, call: &Call) -> Result<(), Failure>
     requires caller { has tree.old.clients client ≡ true }
     requires call { is_connect call.now ≡ false }
@@ -90,7 +90,7 @@ fn bring(tree: &mut Plain, calls: &[Call]) -> Result<u64, Failure>
     }
 }
 
-// The loader comes, if there is one.
+// Adds the loader, if there is one.
 fn load(tree: &mut Plain, loader: &Option<Vec<Call>>) -> Result<(), Failure>
     requires calls { IfSome loader.now (λ calls. AreOthers calls.items) }
     requires next { tree.old.next ≤ 2 }
@@ -115,7 +115,8 @@ pub struct Opened {
     ghost there: { has tree.clients client ≡ true },
 }
 
-/// Opens a tree: a loader comes, if there is one, and then the client of the profile.
+/// Opens a tree: adds the loader, if there is one, and then the client of the profile. Errors: a call of one of them is
+/// refused, or memory ran out.
 pub fn open_tree(alloc: Global, setup: &Setup) -> Result<Opened, Failure>
     ensures ok { IfOk result (λ opened. Opens setup.now opened.client opened.tree) }
     ensures failure { IfErr result (FailsSo (IsStopped setup.now)) }

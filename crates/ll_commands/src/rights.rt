@@ -1,4 +1,4 @@
-//! The rights of a policy's profile, told as a table.
+//! The rights of a policy's profile, as a table.
 
 ghost use Rattle.std.specs.Prelude.{◌≡◌, ◌∷◌, ◌++◌, ℕ, List, [], IfOk, IfErr, IfSome, OnOk, map, option_map};
 ghost use Rattle.std.specs.Prelude.{string_bytes};
@@ -32,7 +32,7 @@ fn target_path(target: &Target) -> Option<&Path>
     }
 }
 
-// The path of the node that the call makes, if it makes one.
+// Returns the path of the node that the call creates, if any.
 fn made_path(call: &Call) -> Option<&Path>
     ensures { option_map (λ p. p.now) result ≡ made_path call.now }
 {
@@ -42,7 +42,7 @@ fn made_path(call: &Call) -> Option<&Path>
     }
 }
 
-// One path's line behind the others.
+// Appends the line of one path.
 fn push_row(
     alloc: Global,
     tree: &Plain,
@@ -60,7 +60,7 @@ fn push_row(
     Ok(())
 }
 
-// The line of the node that the call makes, if it makes one, behind the others.
+// Appends the line of the node that the call creates, if any.
 fn push_node(
     alloc: Global,
     tree: &Plain,
@@ -78,7 +78,7 @@ fn push_node(
     }
 }
 
-// The lines of these paths.
+// Returns the lines of these paths.
 fn rows_of_paths(
     alloc: Global,
     tree: &Plain,
@@ -95,7 +95,7 @@ fn rows_of_paths(
     Ok(text)
 }
 
-// The lines of the nodes that these calls make.
+// Returns the lines of the nodes that these calls create.
 fn rows_of_nodes(
     alloc: Global,
     tree: &Plain,
@@ -112,7 +112,7 @@ fn rows_of_nodes(
     Ok(text)
 }
 
-// The lines of the nodes that the loader makes, if there is one.
+// Returns the lines of the nodes that the loader creates, if there is one.
 fn rows_of_loader(
     alloc: Global,
     tree: &Plain,
@@ -129,7 +129,7 @@ fn rows_of_loader(
     }
 }
 
-// The lines of the paths that are wanted, or where there is none of the policy's nodes.
+// Returns the lines of the given paths, or by default of the policy's nodes.
 fn rows_told(
     alloc: Global,
     opened: &Opened,
@@ -151,7 +151,8 @@ fn rows_told(
     }
 }
 
-/// The table that the options ask for, by the policy in this file.
+/// Returns the table that the options ask for, by the policy in this file. Errors: a word spells no path, the policy
+/// gives no setup, a call of it is refused, the file can't be read, or memory ran out.
 pub fn rights_table<R: Read>(
     alloc: Global,
     options: &RightsOptions,
@@ -184,8 +185,8 @@ pub fn rights_table<R: Read>(
     }
 }
 
-/// Tells the rights that the options ask for, by the policy in this file. Writes nothing before the table is complete,
-/// and not again after a failure.
+/// Writes the table that the options ask for, by the policy in this file. Writes nothing before the table is complete,
+/// and doesn't retry after a failure. Errors: those of `rights_table`; the output failed.
 pub fn tell_rights<R: Read, W: Write>(
     alloc: Global,
     options: &RightsOptions,

@@ -1,4 +1,4 @@
-//! Serving, as the program does it.
+//! Serves connections, as the program does.
 
 ghost use Rattle.std.specs.Prelude.{◌≡◌, ℕ, List, IfErr, IfOk, IfSome, OnOk};
 ghost use Rattle.std.specs.Io.KnownBytes.{Appends};
@@ -20,7 +20,7 @@ use std::io::{Read, Write};
 use std::sync::Wait;
 use std::thread::Threads;
 
-// Serves connections on a tree that is set up so. What is left is its history, and the record that was kept of it.
+// Serves connections on a tree with this setup. Returns its history, and its record, if there is one.
 fn host<H: Threads + Wait + Sync, B: Binds, D: Write + Drop + Send, W: Write, E: Write + Send>(
     rt: &H,
     alloc: Global,
@@ -57,10 +57,10 @@ fn host<H: Threads + Wait + Sync, B: Binds, D: Write + Drop + Send, W: Write, E:
     }
 }
 
-/// Serves connections as the options ask for it. Where they name a policy, the tree is set up by the one that `policy`
-/// reads, and its loader comes first. Then the port is bound and told, and each stream that comes is served. In the end
-/// the tree is closed with the clients of all streams and the loader. Where the options name a file for the history, it
-/// is saved into `file`, under the header of the tree.
+/// Serves connections as the options ask. If they name a policy, `policy` reads it, the tree is set up by it, and its
+/// loader comes first. Then the port is bound and written, and each stream that comes is served. At the end the tree is
+/// closed with the clients of all streams and the loader. If the options name a file for the history, it is saved into
+/// `file`, under the header of the tree. Errors: the first failure.
 pub fn serve<
     H: Threads + Wait + Sync,
     B: Binds,

@@ -27,7 +27,7 @@ fn kind_word(kind: Option<Kind>) -> &'static str
     }
 }
 
-// The name comes behind the names before it, of which there are so many.
+// Appends the name, after this many others.
 fn push_name(text: &mut String, before: usize, name: &str) -> Result<(), AllocError>
     ensures { OnOk result (string_bytes text.new ≡ string_bytes text.old ++ parted before name.now) }
 {
@@ -37,7 +37,7 @@ fn push_name(text: &mut String, before: usize, name: &str) -> Result<(), AllocEr
     text.push_str(name)
 }
 
-// The text of the node with so many of the path's names.
+// Returns the text of the node with this many of the path's names.
 fn upper_text(alloc: Global, path: &Path, count: usize) -> Result<String, AllocError>
     ensures { IfOk result (λ text. string_bytes text ≡ path_text (take count path.now)) }
 {
@@ -52,7 +52,7 @@ fn upper_text(alloc: Global, path: &Path, count: usize) -> Result<String, AllocE
     Ok(text)
 }
 
-// What grants the rights, and which these are, if there are any.
+// Appends what grants the rights, and the rights, if there are any.
 fn push_granted(
     alloc: Global,
     text: &mut String,
@@ -70,7 +70,7 @@ fn push_granted(
     push_token(text, names.as_str())
 }
 
-// What the rule on the node with so many of the path's names grants.
+// Appends what the rule on the node with this many of the path's names allows.
 fn push_ruled(
     alloc: Global,
     text: &mut String,
@@ -85,7 +85,7 @@ fn push_ruled(
     push_granted(alloc, text, by.as_str(), ruled.rights)
 }
 
-// What the rules grant on the nodes of the path, from the root on.
+// Appends what the rules allow on the nodes of the path, from the root on.
 fn push_rules(
     alloc: Global,
     text: &mut String,
@@ -101,7 +101,7 @@ fn push_rules(
     Ok(())
 }
 
-// A layer's column.
+// Appends a layer's column.
 fn push_column(
     alloc: Global,
     text: &mut String,
@@ -116,7 +116,7 @@ fn push_column(
     push_rules(alloc, text, path, grants.ruled.as_slice())
 }
 
-// The layers' columns.
+// Appends the layers' columns.
 fn push_columns(
     alloc: Global,
     text: &mut String,
@@ -132,7 +132,7 @@ fn push_columns(
     Ok(())
 }
 
-// The same where they are asked for.
+// Appends the layers' columns, if they are asked for.
 fn push_columns_if(
     alloc: Global,
     text: &mut String,
@@ -150,8 +150,8 @@ fn push_columns_if(
     }
 }
 
-/// The path's line of the table: its kind, the rights that all layers grant, and a column for each layer where they are
-/// asked for.
+/// Returns the path's line of the table: its kind, the rights that all layers grant, and, if asked for, a column for
+/// each layer. Errors: memory ran out.
 pub fn row_text(
     alloc: Global,
     path: &Path,

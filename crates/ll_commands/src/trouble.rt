@@ -27,7 +27,7 @@ impl Trouble {
     }
 }
 
-/// The trouble of a connection that may be idle for so many seconds, as the log tells it.
+/// The trouble of a connection, which may be idle for this many seconds, as the log prints it.
 #[derive(Clone, Copy, Debug)]
 pub(crate) struct Troubled {
     pub(crate) trouble: Trouble,

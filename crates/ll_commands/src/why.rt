@@ -1,4 +1,4 @@
-//! What `why` tells.
+//! Writes explanations for `why`.
 
 ghost use Rattle.std.specs.Prelude.{◌≡◌, ◌≤◌, ◌⊎◌, ℕ, List, IfErr, IfOk, IfSome, OnOk};
 ghost use Rattle.std.specs.Io.KnownBytes.{Appends};
@@ -18,16 +18,16 @@ use ll_why::{HistoryWhy, why_entry};
 use std::alloc::Global;
 use std::io::{Read, Write};
 
-/// What is answered.
+/// An explanation, or why there is none.
 #[derive(Drop)]
 pub enum Answer {
     /// Lines for people.
     Told(String),
-    /// The history's first line that is of no form, counted from 1.
+    /// The history's first malformed line, counted from 1.
     BadLine(usize),
 }
 
-// Of the history's entry of this number.
+// Explains the history's entry with this number.
 fn answer_of_entry<R: Read>(alloc: Global, file: &mut R, number: u64) -> Result<Answer, Failure>
     ensures told { IfOk result (λ answer. (text : List ℕ) × IfSome (R.remaining file.old) (λ told. text ≡ told)
         × EntryAnswers number text answer) }
@@ -46,7 +46,7 @@ fn answer_of_entry<R: Read>(alloc: Global, file: &mut R, number: u64) -> Result<
     }
 }
 
-// Of the command that the word spells, by this run's policy.
+// Explains the command that the word spells, by this run's policy.
 fn answer_of_command<R: Read>(
     alloc: Global,
     tree: &TreeOptions,
@@ -72,7 +72,8 @@ fn answer_of_command<R: Read>(
     }
 }
 
-/// What the options ask for, of the history or by the policy in this file.
+/// Returns the explanation that the options ask for, of the history or by the policy in this file. Errors: the words
+/// are wrong, the policy gives no setup, a call of it is refused, the file can't be read, or memory ran out.
 pub fn answer_of<R: Read>(
     alloc: Global,
     options: &WhyOptions,
@@ -93,7 +94,7 @@ pub fn answer_of<R: Read>(
     }
 }
 
-// The answer, written whole.
+// Writes the whole explanation.
 fn write_answer<W: Write>(alloc: Global, answer: &Answer, out: &mut W) -> Result<(), Failure>
     ensures ok { OnOk result (Appends (W.contents out.old) (W.contents out.new) (answer_text answer.now)) }
     ensures failure { IfErr result (λ failure. ((failure ≡ Failure.NoMemory)
@@ -119,8 +120,8 @@ fn conclusion_of(answer: &Answer) -> Conclusion
     }
 }
 
-/// Tells what the options ask for, of the history or by the policy in this file. Writes nothing before the answer is
-/// complete, and not again after a failure.
+/// Writes the explanation that the options ask for, of the history or by the policy in this file. Writes nothing before
+/// it is complete, and doesn't retry after a failure. Errors: those of `answer_of`; the output failed.
 pub fn tell_why<R: Read, W: Write>(
     alloc: Global,
     options: &WhyOptions,

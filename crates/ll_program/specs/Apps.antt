@@ -15,15 +15,15 @@ script = record (new_rule (codes "SCRIPT")) { required = true }
 abbrev pub valued : Text → Rule
 valued name = record (new_rule name) { long = Some name; value_names = 1 }
 
--- from 1 to 4,096, in decimal digits, before which a plus may stand
+-- from 1 to 4,096, in decimal digits; a plus may come first
 abbrev pub node_numbers : ValueParser
 node_numbers = Unsigned 1 4096
 
--- from 1 to 3, in the same way
+-- from 1 to 3
 abbrev pub levels : ValueParser
 levels = Unsigned 1 3
 
--- how many nodes may live: 1,024 where the words don't say
+-- the limit of live nodes; the default is 1,024
 abbrev pub nodes : Rule
 nodes = record (valued (codes "nodes")) { parser = Some node_numbers; defaults = codes "1024" ∷ [] }
 
@@ -31,7 +31,7 @@ nodes = record (valued (codes "nodes")) { parser = Some node_numbers; defaults =
 abbrev pub history_numbers : ValueParser
 history_numbers = Unsigned 1 1000000
 
--- how many entries the history may have: 10,000 where the words don't say
+-- the limit of the history's entries; the default is 10,000
 abbrev pub history : Rule
 history = record (valued (codes "history")) { parser = Some history_numbers; defaults = codes "10000" ∷ [] }
 
@@ -94,7 +94,7 @@ check = fold with_rule (new_app (codes "check"))
 abbrev pub ports : ValueParser
 ports = Unsigned 1 65535
 
--- the port that is listened at, which must be there
+-- the port to listen at, which is required
 abbrev pub port : Rule
 port = record (needed (codes "port")) { parser = Some ports }
 
@@ -102,7 +102,7 @@ port = record (needed (codes "port")) { parser = Some ports }
 abbrev pub worker_numbers : ValueParser
 worker_numbers = Unsigned 1 32
 
--- how many connections are served at a time: 4 where the words don't say
+-- how many connections are served at a time; the default is 4
 abbrev pub workers : Rule
 workers = record (valued (codes "workers")) { parser = Some worker_numbers; defaults = codes "4" ∷ [] }
 
@@ -110,7 +110,7 @@ workers = record (valued (codes "workers")) { parser = Some worker_numbers; defa
 abbrev pub connection_numbers : ValueParser
 connection_numbers = Unsigned 1 62
 
--- how many connections are served in all: 1 where the words don't say
+-- how many connections are served in all; the default is 1
 abbrev pub connections : Rule
 connections = record (valued (codes "connections")) { parser = Some connection_numbers; defaults = codes "1" ∷ [] }
 
@@ -118,7 +118,7 @@ connections = record (valued (codes "connections")) { parser = Some connection_n
 abbrev pub idle_seconds : ValueParser
 idle_seconds = Unsigned 1 3600
 
--- after how many seconds without a byte a connection is given up
+-- after how many seconds without a byte a connection is closed
 abbrev pub idle : Rule
 idle = record (valued (codes "idle")) { parser = Some idle_seconds }
 
@@ -126,7 +126,7 @@ idle = record (valued (codes "idle")) { parser = Some idle_seconds }
 abbrev pub room_megabytes : ValueParser
 room_megabytes = Unsigned 1 65536
 
--- how many megabytes a connection's lines and replies may take: 64 where the words don't say
+-- how many megabytes a connection's lines and replies may take; the default is 64
 abbrev pub room : Rule
 room = record (valued (codes "room")) { parser = Some room_megabytes; defaults = codes "64" ∷ [] }
 
@@ -135,7 +135,7 @@ serve = fold with_rule (new_app (codes "serve"))
     (port ∷ workers ∷ connections ∷ idle ∷ room ∷ flag (codes "log") ∷ nodes ∷ abi
     ∷ valued (codes "policy") ∷ valued (codes "profile") ∷ history ∷ valued (codes "save") ∷ [])
 
--- an option with a value, with each use one more
+-- an option with a value, which may be repeated
 abbrev pub repeated : Text → Rule
 repeated name = record (valued name) { action = Some Append }
 
@@ -161,7 +161,7 @@ lessons = record (new_rule (codes "FILE")) {
   range = Some (record { start_inclusive = 1; end_inclusive = usize_max });
 }
 
--- a saved history, by the word `--history`
+-- the option `--history` of a saved history
 abbrev pub saved : Rule
 saved = record (new_rule (codes "saved")) { long = Some (codes "history"); value_names = 1 }
 

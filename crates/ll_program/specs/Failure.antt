@@ -1,4 +1,4 @@
--- How the program ends where it fails. own
+-- How the program ends if it fails. own
 use Rattle.std.specs.Prelude.{◌≡◌, ◌≢◌, ◌⊎◌, ◌++◌, ⊤, ℕ, Bool, true, List, Option, Some, None, Result, Ok, Err, codes}
 use Rattle.std.specs.Prelude.{IfSome, decimal}
 use Rattle.clap.specs.declared.error.kind.ErrorKind.{ErrorKind}
@@ -50,7 +50,7 @@ status_of Output = 1
 status_of Socket = 1
 status_of NoMemory = 4
 
--- help and the version are no failure
+-- help and the version aren't failures
 abbrev pub failure_by : ErrorKind → Option Failure
 failure_by DisplayHelp = None
 failure_by DisplayVersion = None
@@ -66,7 +66,7 @@ failure_at audit.Read = File
 failure_at audit.Write = Output
 failure_at audit.NoMemory = NoMemory
 
--- 3 only for a history that isn't found legal, for checks of which one fails, and for a strict run that ends early
+-- 3 only for a history that isn't legal, for checks of which one fails, and for a strict run that ends early
 abbrev pub status_by : Conclusion → ℕ
 status_by Done = 0
 status_by (Stopped stopped) = 3
@@ -81,7 +81,7 @@ abbrev pub status_at : Result Conclusion Failure → ℕ
 status_at (Ok conclusion) = status_by conclusion
 status_at (Err failure) = status_of failure
 
--- the line on standard error; which fault of a policy it tells, no definition says
+-- the line on standard error. No definition says which fault of a policy it names
 abbrev pub line_of : Failure → Option (List ℕ)
 line_of CommandLine = Some (codes "landtree: command line")
 line_of (Policy fault) = None
@@ -91,25 +91,25 @@ line_of Output = Some (codes "landtree: output")
 line_of Socket = Some (codes "landtree: socket")
 line_of NoMemory = Some (codes "landtree: no memory")
 
--- where a strict run of the script with this name has ended, and the line of the reply
+-- where a strict run of this script ended, and the line of the reply
 abbrev pub stop_line : List ℕ → Stop → List ℕ
 stop_line script (AtLine line reply) = script ++ (codes ":" ++ decimal line ++ codes ": ") ++ reply_line reply
 stop_line script (AtOpening reply) = script ++ codes ": before line 1: " ++ reply_line reply
 
--- saving a history, drawing a picture: its file or memory
+-- saving a history, or drawing a picture, fails by its file or by memory
 abbrev pub IsOfSaving : Failure → Type 0
 IsOfSaving File = ⊤
 IsOfSaving NoMemory = ⊤
 IsOfSaving failure = ⊥
 
--- an audit, a schedule: its file or its picture's, its output, memory
+-- an audit, or a schedule, fails by its file or its picture's, by its output, or by memory
 abbrev pub IsOfDevices : Failure → Type 0
 IsOfDevices File = ⊤
 IsOfDevices Output = ⊤
 IsOfDevices NoMemory = ⊤
 IsOfDevices failure = ⊥
 
--- an audit ends with the answer for the bytes of its file, where these are known
+-- an audit ends with the verdict on the bytes of its file, if these are known
 abbrev pub EndsAudit : Option (List ℕ) → Result Conclusion Failure → Type 0
 EndsAudit text (Ok Done) = ⊥
 EndsAudit text (Ok (Stopped stopped)) = ⊥
@@ -124,7 +124,8 @@ EndsSchedule (Ok (Judged verdict)) = ⊥
 EndsSchedule (Ok (Checked end)) = ⊥
 EndsSchedule (Err failure) = IsOfDevices failure
 
--- Serving is done, or ends by a failure: by a wrong command line only for a profile that is asked for and not there
+-- Serving ends well, or with a failure. It ends with a wrong command line only if a profile is asked for that doesn't
+-- exist
 abbrev pub EndsServe : Option (List ℕ) → Result Conclusion Failure → Type 0
 EndsServe profile (Ok Done) = ⊤
 EndsServe profile (Ok (Stopped stopped)) = ⊥
@@ -138,7 +139,7 @@ EndsServe profile (Err Output) = ⊤
 EndsServe profile (Err Socket) = ⊤
 EndsServe profile (Err NoMemory) = ⊤
 
--- what keeps a profile from being exported where nothing is run: any failure but a refused call and a listener's
+-- why a profile isn't exported, if nothing is run: any failure but a refused call and a listener's
 abbrev pub IsOfExport : Failure → Type 0
 IsOfExport CommandLine = ⊤
 IsOfExport (Policy fault) = ⊤
@@ -148,7 +149,8 @@ IsOfExport Output = ⊤
 IsOfExport Socket = ⊥
 IsOfExport NoMemory = ⊤
 
--- A profile is exported, or why not. Where it must pass checks first, checks that don't pass may end it, or any failure
+-- A profile is exported, or there is a reason. If it must pass checks first, failed checks or any failure may be the
+-- reason
 abbrev pub EndsExport : (is_checked : Bool) → Result Conclusion Failure → Type 0
 EndsExport is_checked (Ok Done) = ⊤
 EndsExport is_checked (Ok (Stopped stopped)) = ⊥

@@ -1,4 +1,4 @@
--- What the words of `learn` say of the profile. own
+-- What the words of `learn` say about the profile. own
 use Rattle.std.specs.Prelude.{◌≡◌, ◌≢◌, ◌<◌, ◌^◌, ℕ, Option, Some, None, codes, unwrap_or, if◌then◌else◌}
 use Rattle.std.specs.Prelude.{IfNone, IfSome}
 use Rattle.clap.specs.Words.{Text}
@@ -7,19 +7,20 @@ use Rattle.ll_rights.specs.declared.access.Access.{Access}
 use Rattle.ll_policy.specs.Value.{is_name}
 use Rattle.ll_program.specs.Options.{LearnOrder}
 
--- the name that is told, or else `learned`
+-- the given name, or else `learned`
 abbrev pub name_told : LearnOrder → Text
 name_told order = unwrap_or order.name (codes "learned")
 
--- the profile's name, if that is one
+-- the profile's name, if it is valid
 abbrev pub profile_name : LearnOrder → Option Text
 profile_name order = if is_name (name_told order) then Some (name_told order) else None
 
--- how many rules the profile may have
+-- the most rules of the profile
 abbrev pub most_rules : LearnOrder → ℕ
 most_rules order = unwrap_or order.most 256
 
--- the rights that no rule may hold: what the word spells, if it spells rights, and none where no word is told
+-- The rights that no rule may have: those that the word spells, or none without a word. None if the word spells no
+-- rights
 abbrev pub IsWithheld : Option Text → Option Access → Type 0
 IsWithheld None rights = IfSome rights (λ none. none.0 ≡ 0) × IfNone rights ⊥
 IsWithheld (Some word) rights =

@@ -113,7 +113,7 @@ pub record LearnOrder : Type 0 where
   pub most : Option ℕ
   pub nodes : ℕ
 
--- what a tree is set up by: its limits; its level, or a policy's file and one of its profiles
+-- what sets up a tree: its limits; its level, or a policy's file and one of its profiles
 pub record TreeOrder : Type 0 where
   pub nodes : ℕ
   pub level : Option ℕ
@@ -255,16 +255,16 @@ abbrev pub served_tree : ServeOrder → TreeOrder
 served_tree o =
     record { nodes = o.nodes; level = o.level; history = o.history; policy = o.policy; profile = o.profile }
 
--- a tree for a file of checks, whose history has so much room
+-- a tree for a file of checks, with this much room in its history
 abbrev pub checked_tree : CheckOrder → (room : ℕ) → TreeOrder
 checked_tree o room =
     record { nodes = o.nodes; level = o.level; history = room; policy = o.policy; profile = o.profile }
 
--- a tree with a policy's nodes and no layer, for a file of checks that is learned from
+-- a tree with a policy's nodes and no layer, for a file of checks to learn from
 abbrev pub lesson_tree : LearnOrder → (room : ℕ) → TreeOrder
 lesson_tree o room = record { nodes = o.nodes; level = None; history = room; policy = o.policy; profile = None }
 
--- a tree whose first client has the profile of a policy, of which nothing is kept but the tree
+-- a tree whose first client has the profile of a policy, and whose history isn't needed
 abbrev pub profile_tree : (policy profile : Text) → (nodes : ℕ) → TreeOrder
 profile_tree policy profile nodes =
     record { nodes = nodes; level = None; history = 1; policy = Some policy; profile = Some profile }
@@ -280,18 +280,18 @@ ordered_in (Export o) = to_export (exported_in o)
 ordered_in (Why o) = to_why (why_in o)
 ordered_in (Learn o) = to_learn (learn_in o)
 
--- the number that the text writes, if the parser accepts it
+-- the number that the text spells, if the parser accepts it
 abbrev pub number_in : ValueParser → Text → Option ℕ
 number_in parser text = if accepts false parser text then Some (digits_value 10 (without_leading_plus text)) else None
 
 abbrev pub number_of : Text → ValueParser → List Row → Option ℕ
 number_of name parser rows = option_and_then (number_in parser) (one_of name rows)
 
--- whether the option without a value is there
+-- whether the flag is given
 abbrev pub is_set : Text → List Row → Bool
 is_set name rows = option_map_or (λ text. bytes_eq text (codes "true")) (first_of name rows) false
 
--- what the matches of a subcommand want
+-- what the matches of `run` ask for
 abbrev pub run_order : List Row → Option RunOrder
 run_order rows =
     option_and_then (λ path. option_and_then (λ n. option_map (λ most. record {
@@ -374,7 +374,7 @@ serve_order rows =
     (number_of (codes "workers") worker_numbers rows))
     (number_of (codes "port") ports rows)
 
--- the form that the word names
+-- the form with this name
 abbrev pub form_of : Text → Option Form
 form_of word =
     if bytes_eq word (codes "c") then Some C else if bytes_eq word (codes "json") then Some Json else None
@@ -382,7 +382,7 @@ form_of word =
 abbrev pub nothing_denied : Denied
 nothing_denied = record { tcp = false; ioctl_dev = false; signal = false; abstract_unix_socket = false }
 
--- with what the word names
+-- also denies what the word names
 abbrev pub denied_too : Denied → Text → Option Denied
 denied_too denied word =
     if bytes_eq word (codes "tcp") then Some (record denied { tcp = true })
@@ -395,7 +395,7 @@ abbrev pub denied_all : Denied → List Text → Option Denied
 denied_all denied [] = Some denied
 denied_all denied (word ∷ words) = option_and_then (λ d. denied_all d words) (denied_too denied word)
 
--- a list's words stand between commas (44), and each names something
+-- the list's words are separated by commas (44), and each names something
 abbrev pub denied_by : Text → Option Denied
 denied_by list = denied_all nothing_denied (slice_split (λ b. b == 44) list)
 
@@ -458,22 +458,22 @@ ordered name rows =
     else if bytes_eq name (codes "learn") then option_map to_learn (learn_order rows)
     else option_map to_audit (first_of (codes "FILE") rows)
 
--- of the subcommand that is named, and of its matches
+-- what the named subcommand and its matches ask for
 abbrev pub ordered_of : Option (Text × List Row) → Option Order
 ordered_of = option_and_then (λ named. ordered named.0 named.1)
 
 abbrev pub ordered_by : List Text → Option Order
 ordered_by words = ordered_of (subcommand_of landtree words)
 
--- A level is told where there is no policy, and a profile where there is one
+-- a level is given only without a policy, and a profile only with one
 abbrev pub go_together : Option ℕ → Option Text → Option Text → Bool
 go_together level policy profile = if is_some policy then not (is_some level) else not (is_some profile)
 
--- the file that an input's word names: none where it is `-`, standard input
+-- the file that an input's word names: none if it is `-`, standard input
 abbrev pub file_of : Text → Option Text
 file_of word = if bytes_eq word (codes "-") then None else Some word
 
--- the file to be written, if there is one, is the file that this input is read from
+-- the output file, if there is one, is the file of this input
 abbrev pub names_input : Option Text → Option Text → Bool
 names_input (Some output) (Some input) = bytes_eq output input
 names_input (Some output) None = false
@@ -483,7 +483,7 @@ abbrev pub fits : RunOrder → Bool
 fits o = go_together o.level o.policy o.profile
     && (not (names_input o.save (file_of o.script)) && not (names_input o.save o.policy))
 
--- Lines are chosen for a picture alone, and the first of them isn't behind the last
+-- lines are chosen only for a picture, and the first of them isn't after the last
 abbrev pub may_be_drawn : (picture : Option Text) → (from to : Option ℕ) → Bool
 may_be_drawn (Some picture) (Some from) (Some to) = nat_le from to
 may_be_drawn (Some picture) from to = true
@@ -503,7 +503,7 @@ fits_serve o = go_together o.level o.policy o.profile && not (names_input o.save
 abbrev pub is_absolute : Text → Bool
 is_absolute path = starts_with nat_eq path (codes "/")
 
--- the words after `--as` and `--deny` name what there is, paths are absolute, and what is refused isn't let go too
+-- the words after `--as` and `--deny` exist, paths are absolute, and `--exact` and `--best-effort` aren't both given
 abbrev pub fits_export : ExportOrder → Bool
 fits_export o = (is_some o.form && is_some o.deny)
     && (not (o.exact && o.best_effort)
@@ -513,7 +513,7 @@ fits_export o = (is_some o.form && is_some o.deny)
 abbrev pub is_checked : ExportOrder → Bool
 is_checked o = not (length o.checked == 0)
 
--- what `why` is asked: why a command, by a policy and its profile, or an entry of a history, by its number
+-- what `why` explains: a command, by a policy and its profile, or an entry of a history, by its number
 pub data Asked : Type 0 where
   of_command : (policy profile command : Text) → Asked
   of_entry : (history : Text) → ℕ → Asked
@@ -533,7 +533,7 @@ asked_by o = asked_in o.words o.policy o.profile
 abbrev pub fits_why : WhyOrder → Bool
 fits_why o = is_some (asked_by o)
 
--- what `learn` learns from: files of checks, by a policy's nodes, or a history, for one of its clients
+-- what `learn` learns from: files of checks, with a policy's nodes, or a history, for one of its clients
 pub data Lesson : Type 0 where
   of_checks : (policy : Text) → Lesson
   of_history : (history : Text) → Option ℕ → Lesson
@@ -553,6 +553,6 @@ lessons_by o = lessons_in o.files o.policy o.history o.client
 abbrev pub fits_learn : LearnOrder → Bool
 fits_learn o = is_some (lessons_by o)
 
--- Words with these faults end well: there is none, or help or the version is asked for
+-- words with these faults end well: there is none, or help or the version is asked for
 abbrev pub EndsWell : Kinds → Type 0
 EndsWell faults = (faults ≡ []) ⊎ IsAmong DisplayHelp faults ⊎ IsAmong DisplayVersion faults

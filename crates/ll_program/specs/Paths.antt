@@ -1,4 +1,4 @@
--- Words that are to spell paths. own
+-- Words that should spell paths. own
 use Rattle.std.specs.Prelude.{◌≢◌, ◌⊎◌, ⊤, List, [], ◌∷◌}
 use Rattle.clap.specs.Words.{Text}
 use Rattle.ll_path.specs.Path.{path_refusals}
@@ -14,7 +14,7 @@ abbrev pub HasBadWord : List Text → Type 0
 HasBadWord [] = ⊥
 HasBadWord (word ∷ words) = IsBadWord word ⊎ HasBadWord words
 
--- the paths of the words can't be told
+-- why the words give no paths
 abbrev pub IsOfWords : Failure → Type 0
 IsOfWords CommandLine = ⊤
 IsOfWords NoMemory = ⊤

@@ -29,7 +29,7 @@ use Rattle.ll_wire.specs.Transcript.{Writes}
 use Rattle.ll_audit.specs.Saved.{saved_text}
 use Rattle.ll_program.specs.Options.{RunOrder, TreeOrder, tree_of}
 
--- the calls of the profile that is wanted, none where none is. There is no answer where the plan hasn't that profile
+-- the calls of the profile asked for, or none without one. None if the plan doesn't have that profile
 abbrev pub profile_of : Option (List ℕ) → Plan → Option (List Call)
 profile_of None plan = Some []
 profile_of (Some name) plan = lookup (bytes_eq name) plan.profiles
@@ -46,18 +46,18 @@ pub record ByLevel (order : TreeOrder) (setup : Setup) : Type 0 where
   pub loader : setup.loader ≡ None
   pub profile : setup.profile.items ≡ []
 
--- the setup by the policy in this text, if a file of one is named
+-- the setup by the policy in this text, if a policy's file is named
 abbrev pub IsSetBy : Option (List ℕ) → TreeOrder → List ℕ → Setup → Type 0
 IsSetBy None order text setup = ByLevel order setup
 IsSetBy (Some file) order text setup = (plan : Plan) × IsPlanOf (parse_document text) plan × ByPlan order plan setup
 
--- The setup that is wanted, where the policy's file has this text
+-- the setup asked for, if the policy's file has this text
 abbrev pub IsSetup : TreeOrder → List ℕ → Setup → Type 0
 IsSetup order text setup =
     (setup.nodes ≡ order.nodes) × (setup.history ≡ order.history) × IsSetBy order.policy order text setup
 
--- Why there is no setup: the first of what is wrong with the policy's text, a profile that a right policy
--- hasn't, a file that can't be read, want of memory
+-- Why there is no setup: the first fault of the policy's text, a profile that the policy doesn't have, a file that
+-- can't be read, or NoMemory
 abbrev pub Lacks : TreeOrder → List ℕ → Failure → Type 0
 Lacks order text (Policy fault) =
     ((IsUtf8 text → ⊥) × (fault ≡ NotToml))
@@ -70,17 +70,17 @@ Lacks order text Opening = ⊥
 Lacks order text Output = ⊥
 Lacks order text Socket = ⊥
 
--- the header of the history of a run that is set up so
+-- the header of the history of a run with this setup
 abbrev pub header_of : Setup → Header
 header_of setup = record { version = Three setup.rules.abi; nodes = setup.nodes }
 
--- what stands in a file: where it is named, a run's history under the header of that run, written into what was blank;
--- and else what stood there
+-- The file's contents afterwards. If a file is named: what was blank, then the run's history under its header.
+-- Otherwise what was there before
 abbrev pub IsSaved : Option (List ℕ) → Setup → List Entry → (blank old new : Option (List ℕ)) → Type 0
 IsSaved None setup entries blank old new = new ≡ old
 IsSaved (Some name) setup entries blank old new = Appends blank new (saved_text (header_of setup) entries)
 
--- what the program concludes from what ended a strict run of the script with this name, if anything did
+-- what the program concludes from what ended a strict run of this script, if anything did
 abbrev pub IsConcluded : List ℕ → Option Stop → Conclusion → Type 0
 IsConcluded script None end = end ≡ Done
 IsConcluded script (Some stop) (Stopped stopped) = string_bytes stopped.line ≡ stop_line script stop
@@ -88,9 +88,9 @@ IsConcluded script (Some stop) Done = ⊥
 IsConcluded script (Some stop) (Judged verdict) = ⊥
 IsConcluded script (Some stop) (Checked end) = ⊥
 
--- A run of the setup that is wanted, where the policy's file has this text: what was read of the script and written,
--- and what is saved, are of one history, which is legal in the setup's tree. It is concluded by what ended it: only a
--- strict run is ended before its script
+-- A run with the setup asked for, if the policy's file has this text. What was read of the script and written, and what
+-- is saved, are of one history, which is legal in the setup's tree. It is concluded by what ended it. Only a strict run
+-- ends before its script
 abbrev pub IsRun : RunOrder → List ℕ → Conclusion → (script script' out out' blank file file' : Option (List ℕ))
     → Type 0
 IsRun order text end script script' out out' blank file file' =
@@ -101,8 +101,8 @@ IsRun order text end script script' out out' blank file file' =
     × (order.strict ≡ false → stop ≡ None)
     × IsSaved order.save setup entries blank file file' × IsConcluded order.script stop end
 
--- Why nothing is run to its end and saved: a policy is named, and there is no setup by it, or a fault ends the run of
--- the setup there is, or a history that is to be saved can't be
+-- Why nothing is run to its end and saved: a policy is named, and gives no setup; or a fault ends the run with the
+-- setup; or a history that is to be saved can't be
 abbrev pub MayFail : RunOrder → List ℕ → Failure → Type 0
 MayFail order text failure =
     ((is_some order.policy ≡ true) × Lacks (tree_of order) text failure)
@@ -110,8 +110,8 @@ MayFail order text failure =
     × MayEnd setup fault × (failure ≡ failure_of fault))
     ⊎ ((is_some order.save ≡ true) × IsOfSaving failure)
 
--- A run ends so, where the files have these texts: it is done, or stopped, as one of the script that is named; or it
--- fails, by a wrong command line only for a profile that is asked for and not there, and never by a listener
+-- How a run ends, if the files have these texts. It is done, or stopped, for the script that is named. Or it fails:
+-- with a wrong command line only if a profile is asked for that doesn't exist, and never by a listener
 abbrev pub EndsRun : (texts : Option (List ℕ) → Option (List ℕ)) → RunOrder → Result Conclusion Failure → Type 0
 EndsRun texts order (Ok end) =
     (text : List ℕ) × (script' out out' blank file file' : Option (List ℕ))

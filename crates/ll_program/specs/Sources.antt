@@ -2,14 +2,14 @@
 use Rattle.std.specs.Prelude.{bytes_eq, ◌≡◌, ℕ, List, Option, Some, None, option_and_then, codes, if◌then◌else◌}
 use Rattle.std.specs.Prelude.{IfSome}
 
--- the file of this name, or standard input
+-- the file with this name, or standard input
 abbrev pub named : List ℕ → Option (List ℕ)
 named name = if bytes_eq name (codes "-") then None else Some name
 
--- the text of the file of this name, if one is named
+-- the text of the file with this name, if one is named
 abbrev pub text_in : (Option (List ℕ) → Option (List ℕ)) → Option (List ℕ) → Option (List ℕ)
 text_in texts file = option_and_then (λ name. texts (Some name)) file
 
--- a file whose text is known starts with it: these bytes are told to be what is left to read, or what stands in it
+-- if the file's text is known, these bytes are all of it: what is left to read, or what the file has
 abbrev pub Starts : (text told : Option (List ℕ)) → Type 0
 Starts text told = IfSome text (λ bytes. told ≡ Some bytes)

@@ -1,4 +1,4 @@
-//! Files that are read and written at once.
+//! Files that are read and written at the same time.
 
 ghost use Rattle.std.specs.Prelude.{◌≡◌, OnSome, is_some, true};
 
@@ -17,7 +17,7 @@ pub enum Device<'a> {
 }
 
 impl<'a> Device<'a> {
-    /// Returns the device that is read: a file, or standard input where none is named.
+    /// Returns the device that is read: the named file, or standard input.
     pub fn input(name: Option<&'a str>) -> Device<'a> {
         match name {
             Some(name) => Device::File(name),
@@ -25,7 +25,7 @@ impl<'a> Device<'a> {
         }
     }
 
-    // Its path on Linux.
+    // Returns its path on Linux.
     fn path(self) -> &'a str {
         match self {
             Device::File(name) => name,
@@ -35,7 +35,7 @@ impl<'a> Device<'a> {
         }
     }
 
-    // Whether it is the regular file of this name, by whatever name.
+    // Reports whether it is the regular file with this name, by whatever name.
     fn is_file(self, rt: &HostRuntime, name: &str) -> bool {
         match (fs::metadata(rt, name), fs::metadata(rt, self.path())) {
             (Ok(file), Ok(device)) => file.is_file() && are_of_one_file(&file, &device),
@@ -55,14 +55,14 @@ impl Display for Device<'_> {
     }
 }
 
-/// What a device is for, as a policy.
+/// What a device is used for.
 #[derive(Clone, Copy, Debug)]
 pub struct Purpose<'a> {
     pub what: &'a str,
     pub device: Device<'a>,
 }
 
-/// A file that is to be replaced though it is used meanwhile.
+/// A file that is to be replaced while it is used.
 #[derive(Clone, Copy, Debug)]
 pub struct Clash<'a> {
     what: &'a str,
@@ -71,7 +71,8 @@ pub struct Clash<'a> {
 }
 
 impl<'a> Clash<'a> {
-    /// Finds the first of these that is the file of this name, if one is named: by the file's node, so by any name.
+    /// Returns the first of these devices that is the named file, if one is named. Compares the files' inodes, so names
+    /// don't matter.
     pub fn find(
         rt: &HostRuntime,
         what: &'a str,

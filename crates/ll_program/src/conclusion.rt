@@ -1,4 +1,4 @@
-//! What the program has done where it doesn't fail.
+//! What the program did if it didn't fail.
 
 ghost use Rattle.std.specs.Prelude.{◌≡◌};
 ghost use Rattle.ll_program.specs.Failure.{status_by};
@@ -9,18 +9,18 @@ use ll_audit::Verdict;
 
 #[derive(Debug, Drop)]
 pub enum Conclusion {
-    /// A script is run to its end, or a text of clap's is printed.
+    /// A script ran to its end, or one of clap's texts was printed.
     Done,
-    /// A strict run has ended before its script, as this tells.
+    /// A strict run ended before the end of its script.
     Stopped(Stopped),
-    /// A history is judged.
+    /// A history was judged.
     Judged(Verdict),
-    /// Files are checked, or one of them says nothing somewhere.
+    /// Files were checked, or one of them has a bad line.
     Checked(Checked),
 }
 
 impl Conclusion {
-    /// The program's exit status.
+    /// Returns the program's exit status.
     pub fn status(&self) -> u8
         ensures { result ≡ status_by self.now }
     {

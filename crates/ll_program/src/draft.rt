@@ -1,4 +1,4 @@
-//! Drafts of files: written beside a file, and renamed over it when they are whole.
+//! Drafts of files: written beside a file, and renamed over it when they are complete.
 
 use std::alloc::Global;
 use std::fs::{File, Metadata, OpenOptions, Permissions};
@@ -11,18 +11,18 @@ use std::{fs, io};
 /// How many names beside a file are tried for a draft of it.
 const NAMES: usize = 100;
 
-/// How many links a name may lead through.
+/// The most links that a name may lead through.
 const LINKS: usize = 40;
 
-/// Linux's number of the error that a name leads through more.
+/// Linux's error number for a name that leads through more.
 const TOO_MANY_LINKS: i32 = 40;
 
-/// Tells whether these are of one file, whatever its names.
+/// Reports whether both are the same file, by whatever names.
 pub(crate) fn are_of_one_file(a: &Metadata, b: &Metadata) -> bool {
     a.dev() == b.dev() && a.ino() == b.ino()
 }
 
-// Follows the links at the end of a name. The name that is left is no link, or leads nowhere.
+// Follows the links at the end of a name. The resulting name is no link, or leads nowhere.
 fn followed(rt: &HostRuntime, name: &str) -> io::Result<PathBuf> {
     let mut path = PathBuf::from_str(rt.alloc(), name)?;
     for _ in 0..LINKS {
@@ -41,17 +41,17 @@ fn followed(rt: &HostRuntime, name: &str) -> io::Result<PathBuf> {
     Err(Error::from_raw_os_error(TOO_MANY_LINKS))
 }
 
-/// Where a name leads.
+/// What a name leads to.
 #[derive(Drop)]
 enum Home {
-    /// To what can't be replaced: a device, a pipe, a directory.
+    /// Something that can't be replaced: a device, a pipe, a directory.
     Fixed,
-    /// To a regular file of this path, or to none yet. Of one that is there, who may do what with it.
+    /// A regular file with this path, which may not exist yet. If it exists, its permissions.
     Regular(PathBuf, Option<Permissions>),
 }
 
 impl Home {
-    // Who may not write a file may not replace it either.
+    // Whoever may not write a file may not replace it either.
     fn of(rt: &HostRuntime, name: &str) -> io::Result<Home> {
         let found = match fs::metadata(rt, name) {
             Ok(found) if found.is_file() => found,
@@ -71,14 +71,14 @@ impl Home {
     }
 }
 
-/// Where a draft is written, and where it is to stand.
+/// Where a draft is written, and the file that it will replace.
 #[derive(Drop)]
 struct Beside {
     path: String,
     target: PathBuf,
 }
 
-/// What is written for a file before it stands there; into a file that can't be replaced it is written at once.
+/// The draft of a file. A file that can't be replaced is written directly.
 #[derive(Drop)]
 pub struct Draft<'a> {
     rt: &'a HostRuntime,
@@ -88,7 +88,7 @@ pub struct Draft<'a> {
     is_record: bool,
 }
 
-// The name beside this path that is tried so late, from 1.
+// Returns the name with this number, from 1, that is tried beside this path.
 fn name_beside(alloc: Global, target: &str, number: usize) -> io::Result<String> {
     let name = if number == 1 {
         format!(in alloc; "{target}.part")?
@@ -99,7 +99,7 @@ fn name_beside(alloc: Global, target: &str, number: usize) -> io::Result<String>
 }
 
 impl<'a> Draft<'a> {
-    // A draft in place of what can't be replaced.
+    // Returns a draft that writes directly to a file that can't be replaced.
     fn fixed(rt: &'a HostRuntime, name: &str) -> io::Result<Draft<'a>> {
         Ok(Draft {
             rt,
@@ -110,7 +110,7 @@ impl<'a> Draft<'a> {
         })
     }
 
-    // A new file beside this one, at the first name that is free.
+    // Creates a file beside this one, with the first free name.
     fn beside(
         rt: &'a HostRuntime,
         target: PathBuf,
@@ -124,7 +124,7 @@ impl<'a> Draft<'a> {
                 Err(error) => return Err(error),
             };
             if let Some(permissions) = permissions {
-                // Some file systems know of no permissions.
+                // Some file systems have no permissions.
                 let _ = file.set_permissions(permissions);
             }
             return Ok(Draft {
@@ -139,7 +139,7 @@ impl<'a> Draft<'a> {
         Err(Error::new(ErrorKind::AlreadyExists, message))
     }
 
-    /// Makes a draft for the file of this name.
+    /// Creates a draft for the file with this name.
     pub(crate) fn new(rt: &'a HostRuntime, name: &str) -> io::Result<Draft<'a>> {
         match Home::of(rt, name)? {
             Home::Fixed => Draft::fixed(rt, name),
@@ -147,7 +147,7 @@ impl<'a> Draft<'a> {
         }
     }
 
-    /// Makes a draft that begins with these bytes, and grows with what is done. None beside what can't be replaced.
+    /// Creates a draft that begins with these bytes and grows with each entry. None for a file that can't be replaced.
     pub(crate) fn record(
         rt: &'a HostRuntime,
         name: &str,
@@ -167,13 +167,13 @@ impl<'a> Draft<'a> {
         }
     }
 
-    // Whether the file of this name is still the draft.
+    // Reports whether the file with this name is still the draft.
     fn is_at(&self, path: &str) -> io::Result<bool> {
         let there = fs::symlink_metadata(self.rt, path)?;
         Ok(are_of_one_file(&there, &self.file.metadata()?))
     }
 
-    // Renames the draft over its file, once the disk has it.
+    // Renames the draft over its file, after it is on the disk.
     fn rename(&self, beside: &Beside) -> io::Result<()> {
         self.file.sync_all()?;
         if self.is_at(beside.path.as_str())? {
@@ -183,7 +183,7 @@ impl<'a> Draft<'a> {
         }
     }
 
-    /// Puts the draft in its file's place.
+    /// Replaces the file with the draft.
     pub(crate) fn put(&self) -> io::Result<()> {
         match &self.beside {
             Some(beside) => self.rename(beside),
@@ -191,7 +191,7 @@ impl<'a> Draft<'a> {
         }
     }
 
-    /// Removes the draft. What can't be removed stays.
+    /// Removes the draft. If that fails, it stays.
     pub(crate) fn remove(&self) {
         if let Some(beside) = &self.beside
             && let Ok(true) = self.is_at(beside.path.as_str())
@@ -200,7 +200,7 @@ impl<'a> Draft<'a> {
         }
     }
 
-    /// Returns its path, where it stands beside its file.
+    /// Returns its path, if it is beside its file.
     pub(crate) fn path(&self) -> Option<&str> {
         match &self.beside {
             Some(beside) => Some(beside.path.as_str()),
@@ -208,12 +208,12 @@ impl<'a> Draft<'a> {
         }
     }
 
-    /// Tells whether it grows with what is done.
+    /// Reports whether it grows with each entry.
     pub(crate) fn is_record(&self) -> bool {
         self.is_record
     }
 
-    /// What the device told where the newest write failed.
+    /// Returns the device's error for the last failed write.
     pub(crate) fn trouble(&self) -> Option<Error> {
         self.trouble
     }

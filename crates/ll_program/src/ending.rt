@@ -8,8 +8,7 @@ use crate::conclusion::Conclusion;
 use crate::failure::Failure;
 use std::process::ExitCode;
 
-/// Says on standard error why the program fails, where it does, or what has ended a strict run. The status that it ends
-/// with.
+/// Prints on standard error why the program failed, or what ended a strict run. Returns the exit status.
 pub fn concluded(rt: &HostRuntime, ended: Result<Conclusion, Failure>) -> ExitCode
     ensures { exit_status result ≡ status_at ended }
 {

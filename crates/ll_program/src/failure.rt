@@ -1,4 +1,4 @@
-//! What the program says where it fails.
+//! The program's failures, and their lines.
 
 ghost use Rattle.std.specs.Prelude.{◌≡◌};
 ghost use Rattle.clap.specs.Words.{kind_of};
@@ -21,7 +21,7 @@ pub enum Failure {
     Opening,
     File,
     Output,
-    /// The listener of `serve`.
+    /// The listener of `serve` failed.
     Socket,
     NoMemory,
 }
@@ -44,7 +44,7 @@ impl Display for Failure {
 }
 
 impl Failure {
-    /// What a run's fault is for the program: its input is a file.
+    /// Returns the program's failure for a run's fault: its input is a file.
     pub fn of_run(fault: RunFault) -> Failure
         ensures { result ≡ failure_of fault }
     {
@@ -54,7 +54,7 @@ impl Failure {
         }
     }
 
-    /// What a session's fault is for the program, or a schedule's: its input is a file.
+    /// Returns the program's failure for the fault of a session or of a schedule: its input is a file.
     pub fn of_session(fault: SessionFault) -> Failure
         ensures { result ≡ failure_in_session fault }
     {
@@ -66,7 +66,7 @@ impl Failure {
         }
     }
 
-    /// What a fault of a policy is for the program.
+    /// Returns the program's failure for a fault of a policy.
     pub fn of_policy(fault: PolicyFault) -> Failure
         ensures { result ≡ failure_in fault }
     {
@@ -76,7 +76,7 @@ impl Failure {
         }
     }
 
-    /// What keeps a history from being saved, for the program.
+    /// Returns the program's failure if a history can't be saved.
     pub fn of_saving(fault: SaveFault) -> Failure
         ensures { result ≡ failure_by_saving fault }
     {
@@ -86,7 +86,7 @@ impl Failure {
         }
     }
 
-    /// What ends an audit, for the program: its input is a file.
+    /// Returns the program's failure for an audit's: its input is a file.
     pub fn of_audit(failure: FileAuditFault) -> Failure
         ensures { result ≡ failure_at failure }
     {
@@ -97,7 +97,7 @@ impl Failure {
         }
     }
 
-    /// What clap's error is for the program. None where it is a text to print, as help and the version are.
+    /// Returns the program's failure for clap's error. None if it is a text to print, as help and the version are.
     pub fn of_words(error: &clap::Error) -> Option<Failure>
         ensures { result ≡ failure_by (kind_of error.now) }
     {
@@ -108,7 +108,7 @@ impl Failure {
         }
     }
 
-    /// The program's exit status.
+    /// Returns the program's exit status.
     pub fn status(&self) -> u8
         ensures { result ≡ status_of self.now }
     {

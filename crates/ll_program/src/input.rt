@@ -11,20 +11,20 @@ use std::io::Read;
 use std::marker::Model;
 use std::rt::Stdin;
 
-/// What can be read.
+/// Opens files and standard input.
 pub trait Sources {
     type Input: Read + Drop;
 
-    /// The bytes of the file of a name, or without one of standard input, where they are known.
+    /// The bytes of the file with a name, or of standard input without one, if they are known.
     ghost texts: { Self → Option (List ℕ) → Option (List ℕ) };
 
-    /// Opens the file of this name, or without one standard input, at its first byte.
+    /// Opens the file with this name, or standard input without one, at its first byte.
     fn open(&self, file: Option<&str>) -> io::Result<Self::Input>
         ensures { IfOk result (λ input.
             Starts (texts self.now (option_map (λ name. name.now) file.entry)) (Self.Input.remaining input)) };
 }
 
-// What a file or standard input really gives, no contract says.
+// No contract says what the system's files and standard input contain.
 impl Sources for HostRuntime {
     type Input = Either<Stdin, File>;
 
@@ -38,15 +38,15 @@ impl Sources for HostRuntime {
     }
 }
 
-/// The file that a word names, or none where it names standard input.
+/// Returns the file that a word names, or None for standard input.
 pub fn named(word: &str) -> Option<&str>
     ensures { option_map (λ name. name.now) result ≡ named word.now }
 {
     if word == "-" { None } else { Some(word) }
 }
 
-/// A source that its first read opens, so that faults found before are told first. It may keep what is read, so that a
-/// fault in it can be shown without a second reading.
+/// A source that is opened by its first read, so that earlier faults are reported first. It may keep what is read, so
+/// that a fault in it can be shown without reading it again.
 #[derive(Drop)]
 pub struct Late<'a, S: Sources> {
     sources: &'a S,
@@ -56,7 +56,7 @@ pub struct Late<'a, S: Sources> {
     kept: Option<Vec<u8>>,
 }
 
-// The bytes that are left of it, where they are known. Before its first read these are all.
+// The bytes left, if they are known: before the first read, all of them.
 impl<'a, S: Sources> Model for Late<'a, S> {
     ghost use Rattle.std.specs.Prelude.{ℕ, List, Option, option_map};
     ghost use Rattle.std.specs.Option.{option_map_or};
@@ -80,7 +80,7 @@ impl<'a, S: Sources> Late<'a, S> {
         }
     }
 
-    /// Makes a source that keeps what is read of it, if `keeps` says so.
+    /// Returns a source that keeps what is read from it, if `keeps` holds.
     pub fn keeping(alloc: Global, sources: &'a S, file: Option<&'a str>, keeps: bool) -> Self
         ensures { result ≡ S.texts sources.now (option_map (λ name. name.now) file.entry) }
     {
@@ -94,17 +94,17 @@ impl<'a, S: Sources> Late<'a, S> {
         }
     }
 
-    /// The file's name; standard input has none.
+    /// Returns the file's name, or None for standard input.
     pub fn name(&self) -> Option<&'a str> {
         self.file
     }
 
-    /// Whether a read has opened it.
+    /// Reports whether a read has opened it.
     pub fn is_open(&self) -> bool {
         self.input.is_some()
     }
 
-    /// What the device told where the newest read failed, or the opening before it.
+    /// Returns the system's error for the last failed read or opening.
     pub fn trouble(&self) -> Option<io::Error> {
         self.trouble
     }
@@ -118,7 +118,7 @@ impl<'a, S: Sources> Late<'a, S> {
     }
 }
 
-// These bytes come behind those that are kept. Where memory is wanted, nothing is kept any longer.
+// Appends these bytes to those that are kept. If memory runs out, nothing is kept any longer.
 fn keep(kept: &mut Option<Vec<u8>>, bytes: &[u8]) {
     let is_kept = match kept {
         Some(text) => text.extend_from_slice(bytes).is_ok(),

@@ -22,7 +22,7 @@ use std::alloc::{AllocError, Global};
 /// The greatest client number that `--client` accepts.
 pub(crate) const CLIENT_NUMBERS: u64 = 1_000_000_000;
 
-/// The profile's name where the words tell none.
+/// The profile's name if the words give none.
 const NAME: &str = "learned";
 
 /// What `learn` learns from.
@@ -30,7 +30,7 @@ const NAME: &str = "learned";
 pub enum Lessons<'a> {
     /// Files of checks, each made in a new tree set up by a policy: the policy file. The files are among the options.
     Checks(&'a str),
-    /// A saved history, and the client that is learned for, if it is told: the file (`-` is standard input).
+    /// A saved history and, if given, the client that is learned for: the file (`-` is standard input).
     History(&'a str, Option<u64>),
 }
 
@@ -39,7 +39,7 @@ pub enum Lessons<'a> {
 pub struct LearnOptions<'a> {
     /// Files of checks.
     pub files: Vec<&'a str>,
-    /// The policy file whose nodes are made for them.
+    /// The policy file whose nodes are created for them.
     pub policy: Option<&'a str>,
     /// The saved history.
     pub history: Option<&'a str>,
@@ -47,9 +47,9 @@ pub struct LearnOptions<'a> {
     pub client: Option<u64>,
     /// The profile's name.
     pub name: Option<&'a str>,
-    /// Rights that no rule may hold.
+    /// Rights that no rule may have.
     pub never: Option<&'a str>,
-    /// Directories whose rules take what is asked below them.
+    /// Directories whose rules take what is needed below them.
     pub beneath: Vec<&'a str>,
     /// The most rules.
     pub most: Option<u64>,
@@ -67,7 +67,7 @@ fn are_name_bytes(name: &str) -> bool
         .all(|b| matches!(b, b'a'..=b'z' | b'0'..=b'9' | b'-'))
 }
 
-// Whether a profile may have this name.
+// Reports whether a profile may have this name.
 fn is_profile_name(name: &str) -> bool
     ensures { result ≡ is_name name.now }
 {
@@ -122,7 +122,7 @@ impl<'a> LearnOptions<'a> {
         }
     }
 
-    // The name that is told, or else the one that stands for it.
+    // Returns the given name, or else the default.
     fn name_told(&self) -> &'a str
         ensures { result.now ≡ name_told (learn_in self.now) }
     {
@@ -132,8 +132,8 @@ impl<'a> LearnOptions<'a> {
         }
     }
 
-    /// Returns the profile's name: `learned` where none is told. None where the word is no profile's name, which has 1
-    /// to 32 of `a` to `z`, `0` to `9` and `-`.
+    /// Returns the profile's name, by default `learned`. None if the word is no valid name, which has 1 to 32 of `a` to
+    /// `z`, `0` to `9` and `-`.
     pub fn profile_name(&self) -> Option<&'a str>
         ensures { option_map (λ name. name.now) result ≡ profile_name (learn_in self.now) }
     {
@@ -145,7 +145,7 @@ impl<'a> LearnOptions<'a> {
         }
     }
 
-    /// Returns how many rules the profile may have.
+    /// Returns the most rules that the profile may have.
     pub fn most_rules(&self) -> usize
         ensures most { result ≡ most_rules (learn_in self.now) }
         ensures some { 1 ≤ result }
@@ -157,7 +157,7 @@ impl<'a> LearnOptions<'a> {
         }
     }
 
-    /// Returns the rights that no rule may hold. None where the word spells no rights.
+    /// Returns the rights that no rule may have. None if the word spells no rights.
     pub fn withheld(&self) -> Option<Access>
         ensures { IsWithheld (learn_in self.now).never result }
     {

@@ -1,4 +1,4 @@
-//! What the program is asked by its words, and how it runs scripts, audits histories, fails and ends.
+//! What the command line asks for, and how the program runs scripts, audits histories, fails and ends.
 #![tactic(auto)]
 
 mod checked;

@@ -9,7 +9,7 @@ use std::io;
 use std::io::{Error, Write};
 use std::rt::HostRuntime;
 
-/// The file of a name, which is made, or replaced where it is there.
+/// The file with a name. It is created, or replaced if it exists.
 #[derive(Drop)]
 pub struct NewFile<'a> {
     rt: &'a HostRuntime,
@@ -21,8 +21,8 @@ pub struct NewFile<'a> {
 }
 
 impl<'a> NewFile<'a> {
-    /// Makes nothing yet. What stands in the file is to be this, as a history. Where somebody waits, it is told at once
-    /// on standard error that there is no record.
+    /// Returns a file that isn't created yet. `what` says what it will contain, for messages. With `is_telling`,
+    /// standard error says at once if there is no record.
     pub fn new(rt: &'a HostRuntime, name: &'a str, what: &'a str, is_telling: bool) -> NewFile<'a> {
         NewFile {
             rt,
@@ -39,7 +39,7 @@ impl<'a> NewFile<'a> {
         self.name
     }
 
-    /// Returns what stands in the file.
+    /// Returns what the file will contain, for messages.
     pub fn what(&self) -> &'a str {
         self.what
     }
@@ -52,12 +52,12 @@ impl<'a> NewFile<'a> {
         }
     }
 
-    /// Returns what the system told where the file couldn't be made, written or replaced.
+    /// Returns the system's error if the file couldn't be created, written or replaced.
     pub fn trouble(&self) -> Option<Error> {
         self.trouble
     }
 
-    // Tells that nothing is kept before the end.
+    // Reports that there is no record before the end.
     fn tell(&self, error: Error) {
         if self.is_telling {
             let name = self.name;
@@ -66,7 +66,7 @@ impl<'a> NewFile<'a> {
     }
 }
 
-// Where this draft stands, unless memory is wanted for that.
+// Returns the path of this draft, unless memory runs out.
 fn path_of(alloc: Global, made: &Option<Draft<'_>>) -> Option<String> {
     match made {
         Some(draft) => String::from_str(alloc, draft.path()?).ok(),
@@ -74,7 +74,7 @@ fn path_of(alloc: Global, made: &Option<Draft<'_>>) -> Option<String> {
     }
 }
 
-// What stands in a file, no contract says.
+// No contract says what the system's files contain.
 impl<'a> Destination for NewFile<'a> {
     type Draft = Draft<'a>;
 

@@ -9,7 +9,7 @@ use crate::failure::Failure;
 use ll_path::{Path, Word};
 use std::alloc::Global;
 
-// The path that a word spells.
+// Returns the path that a word spells.
 fn path_of_word(alloc: Global, word: &str) -> Result<Path, Failure>
     ensures path { IfOk result (λ path. path ≡ path_of_text word.now) }
     ensures bad { IfErr result (λ failure. failure ≡ Failure.CommandLine → IsBadWord word.now) }
@@ -34,7 +34,7 @@ fn path_of_word(alloc: Global, word: &str) -> Result<Path, Failure>
     }
 }
 
-// The path comes behind the others.
+// Appends the path.
 fn push_path(paths: &mut Vec<Path>, path: Path) -> Result<(), Failure>
     ensures ok { OnOk result (paths.new.items ≡ paths.old.items ++ path ∷ []) }
     ensures failure { IfErr result (λ failure. failure ≡ Failure.NoMemory) }
@@ -48,7 +48,8 @@ fn push_path(paths: &mut Vec<Path>, path: Path) -> Result<(), Failure>
     }
 }
 
-/// The paths that the words spell, in order. Errors: a word spells no path (a wrong command line); memory ran out.
+/// Returns the paths that the words spell, in order. Errors: a word spells no path (a wrong command line); memory ran
+/// out.
 pub fn paths_of(alloc: Global, words: &[&str]) -> Result<Vec<Path>, Failure>
     ensures paths { IfOk result (λ paths. paths.items ≡ map path_of_text (map (λ w. w.now) words.now)) }
     ensures bad { IfErr result (λ failure. failure ≡ Failure.CommandLine → HasBadWord (map (λ w. w.now) words.now)) }

@@ -1,4 +1,4 @@
-//! What the program sets up, by its words and by a policy.
+//! What the program sets up from its words and a policy.
 
 ghost use Rattle.std.specs.Prelude.{◌≡◌, ◌⊎◌, ℕ, List, [], Some, None, true, is_some, IfOk, IfErr, IfSome, IsOk};
 ghost use Rattle.std.specs.Prelude.{OnErr, OnOk};
@@ -21,7 +21,7 @@ use ll_session::Setup;
 use std::alloc::Global;
 use std::io::Read;
 
-/// The policy that a text gives, or the text's first fault, whatever else is asked for. Errors: memory ran out.
+/// Returns the policy that a text gives. Errors: the text's first fault, whatever else is asked for; memory ran out.
 pub fn policy_of(alloc: Global, text: &[u8]) -> Result<Policy, Failure>
     ensures utf8 { OnOk result (IsUtf8 text.now) }
     ensures right { OnOk result (document_faults (parse_document text.now) ≡ []) }
@@ -39,7 +39,7 @@ pub fn policy_of(alloc: Global, text: &[u8]) -> Result<Policy, Failure>
     }
 }
 
-// The calls of the profile that is wanted, if one is.
+// Returns the calls of the profile asked for, or none without one.
 fn calls_of(alloc: Global, options: &TreeOptions, policy: &Policy) -> Result<Vec<Call>, Failure>
     ensures calls { IfOk result (λ calls. Some calls.items ≡ profile_of (tree_in options.now).profile policy.now) }
     ensures others { IfOk result (λ calls. AreOthers calls.items) }
@@ -56,7 +56,7 @@ fn calls_of(alloc: Global, options: &TreeOptions, policy: &Policy) -> Result<Vec
     }
 }
 
-// The setup by a policy.
+// Returns the setup by a policy.
 fn by_policy(alloc: Global, options: &TreeOptions, policy: &Policy) -> Result<Setup, Failure>
     ensures nodes { IfOk result (λ setup. setup.nodes ≡ options.now.nodes) }
     ensures history { IfOk result (λ setup. setup.history ≡ options.now.history) }
@@ -80,7 +80,7 @@ fn by_policy(alloc: Global, options: &TreeOptions, policy: &Policy) -> Result<Se
     })
 }
 
-// The setup without a policy.
+// Returns the setup without a policy.
 fn by_level(alloc: Global, options: &TreeOptions) -> Setup
     ensures nodes { result.nodes ≡ options.now.nodes }
     ensures history { result.history ≡ options.now.history }
@@ -98,7 +98,8 @@ fn by_level(alloc: Global, options: &TreeOptions) -> Setup
     }
 }
 
-/// What the options ask for, with the policy in this file where they name one: else it isn't read.
+/// Returns the setup that the options ask for, with the policy in this file if they name one. Otherwise the file isn't
+/// read. Errors: the policy's first fault; it doesn't have the profile; the file can't be read; memory ran out.
 pub fn setup_of<R: Read>(
     alloc: Global,
     options: &TreeOptions,

@@ -34,14 +34,14 @@ use std::alloc::Global;
 use std::io::{Read, Write};
 use std::sync::Wait;
 
-/// A history, and the record that was kept of it, if one was.
+/// A history, and its record, if there is one.
 #[derive(Drop)]
 pub struct Recorded<D> {
     pub history: History,
     pub record: Option<D>,
 }
 
-// A run, and what has ended it before its script, if anything has.
+// A run, and what ended it before its script, if anything did.
 #[derive(Drop)]
 struct Performed<D> {
     run: Recorded<D>,
@@ -49,7 +49,7 @@ struct Performed<D> {
 }
 
 impl<D> Performed<D> {
-    // A run of which this record was kept.
+    // Returns the run with this record.
     fn of(run: Run, record: Option<D>) -> Performed<D>
         ensures history { result.run.history ≡ run.history }
         ensures stop { result.stop ≡ run.stop }
@@ -62,8 +62,8 @@ impl<D> Performed<D> {
     }
 }
 
-// Runs a script over a tree that is set up so, strictly or not. A record that has the header is kept of its history
-// meanwhile; with a failure, what was answered is in the record.
+// Runs a script on a tree with this setup, strictly or not. A record, which has the header already, is kept of its
+// history meanwhile. After a failure, the record has everything that was answered.
 fn perform_over<H: Wait, D: Write + Drop, E: Ends>(
     rt: &H,
     alloc: Global,
@@ -106,7 +106,7 @@ fn perform_over<H: Wait, D: Write + Drop, E: Ends>(
     }
 }
 
-// The same, from a reader to a writer.
+// Does this from a reader to a writer.
 fn perform<H: Wait, D: Write + Drop, R: Read, W: Write>(
     rt: &H,
     alloc: Global,
@@ -137,7 +137,7 @@ fn perform<H: Wait, D: Write + Drop, R: Read, W: Write>(
     perform_over(rt, alloc, setup, is_strict, record, &mut ends)
 }
 
-/// The header of the history of a run that is set up so.
+/// Returns the header of the history of a run with this setup.
 pub fn header_of(setup: &Setup) -> Header
     ensures header { result ≡ header_of setup.now }
     ensures some { 1 ≤ result.nodes }
@@ -178,8 +178,8 @@ fn remove_record<F: Destination>(record: Option<F::Draft>, file: &mut F)
     }
 }
 
-/// Saves a history under this header, and removes the record of it then. With a failure what stood in the file stays,
-/// and the record with it.
+/// Saves a history under this header, and then removes its record. Errors: the file can't be written, or memory ran
+/// out; the file keeps its old contents, and the record stays.
 pub fn save_history<F: Destination>(
     alloc: Global,
     header: Header,
@@ -204,7 +204,7 @@ pub fn save_history<F: Destination>(
     }
 }
 
-// Saves a history where a file is named for it.
+// Saves a history, if a file is named for it.
 fn save_where_named<F: Destination>(
     alloc: Global,
     options: &RunOptions,
@@ -226,7 +226,7 @@ fn save_where_named<F: Destination>(
     save_history(alloc, header, run, file)
 }
 
-// What the program concludes from what ended the run of this script.
+// Returns what the program concludes from what ended the run of this script.
 fn conclude(alloc: Global, script: &str, stop: Option<Stop>) -> Result<Conclusion, Failure>
     ensures end { IfOk result (IsConcluded script.now stop) }
     ensures failure { IfErr result (λ failure. failure ≡ Failure.NoMemory) }
@@ -240,8 +240,9 @@ fn conclude(alloc: Global, script: &str, stop: Option<Stop>) -> Result<Conclusio
     }
 }
 
-/// Runs a script as the options ask for it: where they name a policy, by the one that `policy` reads. Where they name a
-/// file for the history, it is saved into `file`, under the header of its tree, also where a strict run ends early.
+/// Runs a script as the options ask. If they name a policy, `policy` reads it. If they name a file for the history, the
+/// history is saved into `file`, under the header of its tree, even if a strict run ended early. Errors: the first
+/// failure.
 pub fn run<H: Wait, P: Read, R: Read, W: Write, F: Destination>(
     rt: &H,
     alloc: Global,
@@ -280,7 +281,8 @@ pub fn run<H: Wait, P: Read, R: Read, W: Write, F: Destination>(
     }
 }
 
-/// Judges the history in a file, and writes the answer's line.
+/// Judges the history in a file, and writes the verdict's line. Errors: the file or the output failed, or memory ran
+/// out.
 pub fn audit<R: Read, W: Write, P: Progress>(
     alloc: Global,
     file: &mut R,

@@ -3,15 +3,15 @@
 use ll_audit::Progress;
 use std::io::Write;
 
-/// From so many entries on progress is shown.
+/// Progress is shown for at least this many entries.
 const MANY: usize = 100_000;
 
-/// Shows how far an audit of many entries has come, where somebody watches: a line each tenth.
+/// Shows the progress of an audit of many entries, if somebody watches: a line for each tenth.
 #[derive(Drop)]
 pub struct Shown<W> {
     out: W,
     is_watched: bool,
-    // How many tenths are shown.
+    // The number of tenths shown.
     shown: usize,
 }
 

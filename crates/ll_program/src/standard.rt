@@ -5,10 +5,10 @@ use std::io;
 use std::os::fd::AsFd;
 use std::rt::HostRuntime;
 
-/// Linux's number of the error that a descriptor is closed.
+/// Linux's error number for a closed descriptor.
 const CLOSED: i32 = 9;
 
-/// What holds the place of those that are closed, so that no file that is opened later takes it. It gives no byte, and
+/// Occupies the descriptors of closed standard streams, so that no file opened later gets one. It returns no byte, and
 /// takes none.
 #[derive(Drop)]
 pub struct Standard {
@@ -27,7 +27,7 @@ fn is_closed<F: AsFd>(standard: &F) -> bool {
     }
 }
 
-// A file that is opened gets the lowest descriptor that is free.
+// An opened file gets the lowest free descriptor.
 fn holder<F: AsFd>(rt: &HostRuntime, standard: &F) -> io::Result<Option<File>> {
     if is_closed(standard) {
         Ok(Some(File::open(rt, "/")?))
@@ -37,7 +37,7 @@ fn holder<F: AsFd>(rt: &HostRuntime, standard: &F) -> io::Result<Option<File>> {
 }
 
 impl Standard {
-    /// Holds the place of each that is closed, for as long as this stands.
+    /// Occupies the descriptor of each closed standard stream, as long as the result lives.
     pub fn hold(rt: &HostRuntime) -> io::Result<Standard> {
         Ok(Standard {
             input: holder(rt, &rt.stdin())?,

@@ -1,4 +1,4 @@
-//! What the program says where a strict run ends early.
+//! What the program prints if a strict run ends early.
 
 ghost use Rattle.std.specs.Prelude.{◌≡◌, ◌++◌, IfOk, Some, decimal, codes, string_bytes};
 ghost use Rattle.ll_wire.specs.Grammar.{reply_line};
@@ -12,12 +12,12 @@ use std::alloc::{AllocError, Global};
 use std::fmt;
 use std::fmt::Display;
 
-/// What is known of a strict run that has ended early.
+/// What is known of a strict run that ended early.
 #[derive(Debug, Drop)]
 pub struct Stopped {
-    /// Where in the script it has ended, and by which reply: a line to print.
+    /// The line to print: where in the script it ended, and with which reply.
     pub line: String,
-    /// The number, from 1, of the script's line that has ended it and spells no command.
+    /// The number, from 1, of the script's line that ended it and spells no command.
     pub bad_line: Option<u64>,
 }
 
@@ -29,7 +29,7 @@ impl Display for Stopped {
     }
 }
 
-// The script's name, the place and the reply, in a row.
+// Concatenates the script's name, the place and the reply.
 fn told(alloc: Global, script: &str, place: &str, reply: &Reply) -> Result<String, AllocError>
     ensures { IfOk result (λ text. string_bytes text ≡ script.now ++ place.now ++ reply_line reply.now) }
 {
@@ -40,7 +40,7 @@ fn told(alloc: Global, script: &str, place: &str, reply: &Reply) -> Result<Strin
     Ok(text)
 }
 
-// The number of a line, between colons.
+// Returns the number of a line, between colons.
 fn place_of(alloc: Global, line: u64) -> Result<String, AllocError>
     ensures { IfOk result (λ text. string_bytes text ≡ codes ":" ++ decimal line ++ codes ": ") }
 {
@@ -50,7 +50,7 @@ fn place_of(alloc: Global, line: u64) -> Result<String, AllocError>
     Ok(text)
 }
 
-// The number of the line that spells no command.
+// Returns the number of the line that spells no command.
 fn bad_line(stop: &Stop) -> Option<u64>
     ensures { result ≡ bad_line stop.now }
 {
@@ -61,7 +61,7 @@ fn bad_line(stop: &Stop) -> Option<u64>
 }
 
 impl Stopped {
-    /// What is told of the script of this name, by what ended its run. Errors: memory ran out.
+    /// Returns what is known of a run of this script that ended like this. Errors: memory ran out.
     pub fn of(alloc: Global, script: &str, stop: &Stop) -> Result<Stopped, AllocError>
         ensures line { IfOk result (λ stopped. string_bytes stopped.line ≡ stop_line script.now stop.now) }
         ensures bad { IfOk result (λ stopped. stopped.bad_line ≡ bad_line stop.now) }

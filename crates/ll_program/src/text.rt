@@ -10,7 +10,7 @@ use ll_wire::{Pair, write_out};
 use std::alloc::Global;
 use std::io::{ErrorKind, Read, Write, empty};
 
-/// The whole text of a policy's or a schedule's file.
+/// Returns the whole text of a policy's or a schedule's file. Errors: it can't be read, or memory ran out.
 pub fn read_text<R: Read>(alloc: Global, file: &mut R) -> Result<Vec<u8>, Failure>
     ensures text { IfOk result (λ text. IfSome (R.remaining file.old) (λ told. text.items ≡ told)) }
     ensures failure { IfErr result (λ failure. (failure ≡ Failure.File) ⊎ (failure ≡ Failure.NoMemory)) }

@@ -1,4 +1,4 @@
-//! How a tree is set up, as the options of each command ask for it.
+//! How a tree is set up, as the options of each command ask.
 
 ghost use Rattle.std.specs.Prelude.{◌≡◌, ◌≤◌};
 ghost use Rattle.ll_rights.specs.declared.limits.TheConstants.{HISTORY_ENTRIES, TREE_NODES};
@@ -27,7 +27,7 @@ pub struct TreeOptions<'a> {
 impl<'a> TreeOptions<'a> {
     ghost use Rattle.ll_program.specs.Options.{profile_tree, tree_in};
 
-    /// Returns the options of a tree whose first client has the profile of a policy, and whose history isn't asked for.
+    /// Returns the options of a tree whose first client has the profile of a policy, and whose history isn't needed.
     pub fn of_profile(policy: &'a str, profile: &'a str, nodes: usize) -> TreeOptions<'a>
         requires some { 1 ≤ nodes }
         requires most { nodes ≤ TREE_NODES }
@@ -80,7 +80,7 @@ impl<'a> ServeOptions<'a> {
 impl<'a> CheckOptions<'a> {
     ghost use Rattle.ll_program.specs.Options.{checked_in, checked_tree, tree_in};
 
-    /// Returns the options of a file's tree, with as much room in the history as there may be.
+    /// Returns the options of a file's tree, with the most room in its history.
     pub fn tree(&self) -> TreeOptions<'a>
         ensures { tree_in result ≡ checked_tree (checked_in self.now) HISTORY_ENTRIES }
     {
@@ -97,8 +97,8 @@ impl<'a> CheckOptions<'a> {
 impl<'a> LearnOptions<'a> {
     ghost use Rattle.ll_program.specs.Options.{learn_in, lesson_tree, tree_in};
 
-    /// Returns the options of the tree of a file that is learned from: the policy's nodes and no layer, with as much
-    /// room in the history as there may be.
+    /// Returns the options of the tree of a file that is learned from: the policy's nodes and no layer, with the most
+    /// room in its history.
     pub fn tree(&self) -> TreeOptions<'a>
         ensures { tree_in result ≡ lesson_tree (learn_in self.now) HISTORY_ENTRIES }
     {

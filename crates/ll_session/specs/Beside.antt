@@ -1,4 +1,4 @@
--- A session whose clients call while others call on the same tree: what becomes of its clients, told by what each of
+-- A session whose clients call while others call on the same tree: how its clients change, in terms of what each of
 -- them knows. own
 use Rattle.std.specs.Prelude.{◌≡◌, ◌⊎◌, ℕ, ◌+◌, ◌-◌, ◌<◌, ◌≤◌, true, false, List, [], ◌∷◌, length}
 use Rattle.ll_rights.specs.declared.errno.Errno.TheVariants.{HistoryFull, NoMemory, BadLine}
@@ -13,14 +13,14 @@ use Rattle.ll_session.specs.declared.tally.Tally.{Tally}
 use Rattle.ll_wire.specs.Grammar.{SpellsCommand, reply_line}
 use Rattle.ll_wire.specs.Reads.{holds_text}
 
--- of so many clients the newest is told by its place
+-- with this many clients, lines name the newest by its place
 abbrev pub placed : ℕ → Reply → Reply
 placed clients (Spawned number) = Spawned clients
 placed clients reply = reply
 
--- The first so many clients came before the session; lines name the others by place. A piece that spells a call of one
--- of them gets its reply; or, where no memory is there for its words or bytes, want of memory, but HistoryFull where
--- the history is full; every other piece gets `refused 23 BadLine`
+-- The first `before` clients came before the session; lines name the others by place. A piece that spells a call of one
+-- of these gets its reply. If there is no memory for the piece's words or bytes, it gets HistoryFull if the history is
+-- full, and else NoMemory. Every other piece gets `refused 23 BadLine`
 pub data AnswersBeside (limit before : ℕ) (ks : List Knows) (piece : List ℕ) : Reply → List Knows → Type 0 where
   calls : (n : ℕ) (call : Call) (reply : Reply) (ks' : List Knows) → SpellsCommand piece n call
       → before + n ≤ length ks → AsksFor limit ks (before + n - 1) call reply ks'
@@ -40,7 +40,7 @@ CountsBeside limit before s piece line t =
     (reply : Reply) × AnswersBeside limit before s.0 piece reply t.0 × (line ≡ reply_line reply)
     × (t.1 ≡ counted s.1 reply)
 
--- The client at this place makes these calls in turn, and none is refused
+-- the client at this place makes these calls in turn, and none is refused
 abbrev pub MakesBeside : (limit : ℕ) → List Knows → (place : ℕ) → List Call → List Knows → Type 0
 MakesBeside limit ks place [] ks' = ks' ≡ ks
 MakesBeside limit ks place (call ∷ list) ks' =

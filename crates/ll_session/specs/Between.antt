@@ -1,4 +1,4 @@
--- What a session was at each point, told when its tree is closed. Cited by contracts between crates alone. own
+-- What a session was at each point, as known when its tree is closed. Cited by contracts between crates alone. own
 use Rattle.std.specs.Prelude.{◌≡◌, ℕ, ◌≤◌, true, List, length, take}
 use Rattle.std.specs.List.{AllByRecursion}
 use Rattle.ll_rights.specs.Map.{has, len}
@@ -14,11 +14,11 @@ use Rattle.ll_session.specs.PartySession.{Session}
 use Rattle.ll_session.specs.Growth.{Grows}
 use Rattle.ll_session.specs.Talk.{seen_by}
 
--- the tree after so many entries
+-- the tree after this many entries
 abbrev pub tree_at : Rules → ℕ → List Entry → ℕ → State
 tree_at rules room history n = state_after (start rules room) (take n history)
 
--- the session of these clients: the entries of which one of them knows, and the tree to which they lead
+-- the session of these clients: the entries that any of them knows of, and the tree after those
 abbrev pub between : Rules → (room limit : ℕ) → List Entry → List Knows → Session
 between rules room limit history ks = record {
   tree = tree_at rules room history (seen_by ks);
@@ -27,7 +27,7 @@ between rules room limit history ks = record {
   limit = limit;
 }
 
--- These are all clients of the tree at that point, in the order of their numbers, and no entry of theirs is later
+-- these are all clients of the tree at that point, sorted by number, and no entry of theirs is later
 pub record IsSettled (rules : Rules) (room : ℕ) (history : List Entry) (ks : List Knows) : Type 0 where
   pub low : seen_by ks ≤ length history
   pub known : AllByRecursion (λ (k : Knows). AllByRecursion (λ (x : Numbered). x.number ≤ seen_by ks) k.part) ks
@@ -35,8 +35,8 @@ pub record IsSettled (rules : Rules) (room : ℕ) (history : List Entry) (ks : L
   pub there : AllByRecursion (λ c. has (tree_at rules room history (seen_by ks)).clients c ≡ true) (numbers_of ks)
   pub count : len (tree_at rules room history (seen_by ks)).clients ≡ length ks
 
--- Whatever history the tree is closed with: where these clients were settled, those are, and their sessions stand so to
--- one another
+-- Whatever history the tree is closed with: if these clients were settled, the later ones are, and `Holds` relates
+-- their sessions
 abbrev pub Leads : Rules → (room limit : ℕ) → (ks ks' : List Knows) → (Session → Session → Type 0) → Type 0
 Leads rules room limit ks ks' Holds =
     Grows ks ks'

@@ -1,4 +1,4 @@
--- A run of calls: each is answered as the line of a script is that spells it. own
+-- A run of calls: each gets the reply that a script's line with this call would get. own
 use Rattle.std.specs.Prelude.{◌≡◌, ℕ, List, [], ◌∷◌, ◌++◌, map}
 use Rattle.std.specs.List.{flat_map}
 use Rattle.ll_seq.specs.declared.reply.Entry.{Entry}
@@ -20,7 +20,7 @@ use Rattle.ll_session.specs.declared.setup.Setup.{Setup}
 abbrev pub call_line : ClientCall → List ℕ
 call_line made = line_of (client_tokens made.client ++ call_tokens made.call)
 
--- each call in turn gets its reply, which the line that spells it would get
+-- each call in turn gets the reply that its line would get
 abbrev pub Replied : Session → List ClientCall → List Reply → Session → Type 0
 Replied s [] [] t = t ≡ s
 Replied s [] (reply ∷ replies) t = ⊥
@@ -28,7 +28,8 @@ Replied s (made ∷ calls) [] t = ⊥
 Replied s (made ∷ calls) (reply ∷ replies) t =
     (mid : Session) × Answers s (call_line made) reply mid × Replied mid calls replies t
 
--- the session is opened, and each call gets its reply; or the opening is refused by this reply. These entries are left
+-- The session is opened, and each call gets its reply; or the opening is refused with this reply. These entries are
+-- left
 abbrev pub Makes : Setup → List ClientCall → CallReplies → List Entry → Type 0
 Makes setup calls (Answered replies) entries =
     (first last : Session) × Opens setup (begun first) × Replied first calls replies.items last
@@ -36,7 +37,7 @@ Makes setup calls (Answered replies) entries =
 Makes setup calls (Refused reply) entries =
     (last : Session) × Opens setup (refused reply last) × (entries ≡ last.entries)
 
--- a session writes the lines of the replies for the lines of the calls
+-- for the lines of the calls, a session writes the lines of the replies
 abbrev pub LinesGetTheReplies : Type 0
 LinesGetTheReplies =
     (s t : Session) (calls : List ClientCall) (replies : List Reply) → Replied s calls replies t
@@ -44,7 +45,7 @@ LinesGetTheReplies =
 
 -- ---- parts, which no public contract cites
 
--- the same beside others, of whom the first so many came before the session
+-- each call in turn gets its reply while others call; the first `before` clients came before the session
 abbrev pub RepliedBeside : (limit before : ℕ) → List Knows → List ClientCall → List Reply → List Knows → Type 0
 RepliedBeside limit before ks [] [] ks' = ks' ≡ ks
 RepliedBeside limit before ks [] (reply ∷ replies) ks' = ⊥

@@ -1,4 +1,4 @@
--- What sessions count, and how far they have come. own
+-- What sessions count, and how far they are. own
 use Rattle.std.specs.Prelude.{◌≡◌, ◌+◌, ◌&&◌, ℕ, Bool, false, Option, Some, None, cond}
 use Rattle.ll_seq.specs.declared.reply.Reply.{Reply}
 use Rattle.ll_seq.specs.declared.reply.Reply.TheVariants.{Denied}
@@ -15,7 +15,7 @@ abbrev pub denied : Reply → ℕ
 denied (Denied denial) = 1
 denied reply = 0
 
--- one line more, which was answered by this reply
+-- one more line, answered with this reply
 abbrev pub counted : Tally → Reply → Tally
 counted t reply = record { lines = t.lines + 1; denials = t.denials + denied reply }
 
@@ -23,7 +23,7 @@ counted t reply = record { lines = t.lines + 1; denials = t.denials + denied rep
 abbrev pub first_score : (strict : Bool) → Score
 first_score strict = record { is_strict = strict; tally = nothing; end = None }
 
--- this reply is counted; it ends the session where that is strict and the reply is one that ends it
+-- this reply is counted; in a strict session it is the end if `is_end`
 abbrev pub noted : Score → Reply → (is_end : Bool) → Score
 noted s reply is_end = record {
   is_strict = s.is_strict;
@@ -31,7 +31,7 @@ noted s reply is_end = record {
   end = cond (s.is_strict && is_end) (Some reply) s.end;
 }
 
--- what has ended a session after so many lines, if this reply has
+-- what ended a session after this many lines, if this reply did
 abbrev pub stop_at : ℕ → Option Reply → Option Stop
 stop_at lines None = None
 stop_at lines (Some reply) = Some (AtLine lines reply)
@@ -39,6 +39,6 @@ stop_at lines (Some reply) = Some (AtLine lines reply)
 abbrev pub stop_of : Score → Option Stop
 stop_of s = stop_at s.tally.lines s.end
 
--- a session stays strict or not, and no reply ends one that isn't
+-- a session stays strict or not, and no reply ends one that isn't strict
 abbrev pub StaysAs : Score → Score → Type 0
 StaysAs s t = (t.is_strict ≡ s.is_strict) × (s.is_strict ≡ false → t.end ≡ s.end)

@@ -1,4 +1,4 @@
--- How a history is kept while it grows. own
+-- How a history is recorded while it grows. own
 use Rattle.std.specs.Prelude.{◌≡◌, ◌≤◌, ◌+◌, ℕ, true, false, List, ◌++◌, length, take, Option, ⊤, string_bytes}
 use Rattle.std.specs.Prelude.{if◌then◌else◌}
 use Rattle.std.specs.List.{flat_map}
@@ -12,7 +12,7 @@ use Rattle.ll_session.specs.declared.keeper.Kept.{Kept}
 use Rattle.ll_session.specs.declared.keeper.Kept.TheVariants.{Nowhere, UpTo}
 use Rattle.ll_session.specs.declared.page.Page.{Page}
 
--- All entries that one of these clients knows of are kept, as far as anybody keeps them
+-- all entries that any of these clients knows of are recorded, unless recording has stopped
 abbrev pub AreKept : Kept → List Knows → Type 0
 AreKept (UpTo count) ks = seen_by ks ≤ count
 AreKept Nowhere ks = ⊤
@@ -23,17 +23,17 @@ AreLines history first next text =
     (told : List Entry) × (take next history ≡ take first history ++ told) × (first + length told ≡ next)
     × (text ≡ flat_map entry_line told)
 
--- the page, once the history was read, has the lines of its next entries, unless memory was wanted for them
+-- the page, after the history was read, has the lines of its next entries, unless memory ran out for them
 abbrev pub Fills : Page → List Entry → Page → Type 0
 Fills old history new =
     (new.first ≡ old.first) × (new.total ≡ length history)
     × (new.is_starved ≡ false → AreLines history new.first new.next (string_bytes new.text))
 
--- how far the history is kept
+-- how much of the history is recorded
 abbrev pub kept_of : {W : Type 0} → Pages W → Kept
 kept_of pages = if pages.is_broken then Nowhere else UpTo pages.page.first
 
--- The next entries of the history are written, each in its line, and counted; or the pages are broken, and none is
+-- The next entries of the history are written, each on its line, and counted; or the pages are broken, and none is
 -- counted
 abbrev pub Turns : {W : Type 0} → (contents : W → Option (List ℕ)) → Pages W → List Entry → Pages W → Type 0
 Turns contents old history new =

@@ -17,7 +17,7 @@ use Rattle.ll_journal.specs.declared.direct.Made.{Made}
 use Rattle.ll_session.specs.PartySession.{Session, Called, Connects, following, joined}
 use Rattle.ll_session.specs.Talk.{Asks, Spawns, Joins, Looks, reply_of, seen_by}
 
--- A call that brings nobody is answered as the plain tree would answer it there
+-- a call that creates no client gets the plain tree's reply at that point
 abbrev pub CallsAreSteps : Type 0
 CallsAreSteps =
     (rules : Rules) (room limit : ℕ) (ks ks' : List Knows) (place : ℕ) (call : Call) (made : Made)
@@ -44,8 +44,8 @@ LooksChangeNothing =
     (rules : Rules) (room limit : ℕ) (ks ks' : List Knows) → Looks ks ks'
     → Leads rules room limit ks ks' (λ s t. t ≡ s)
 
--- Of the next client's connect: where the history is full, it is refused so; where there are too many clients, so; and
--- else memory may run out for it
+-- How the next client's connect may fail: with HistoryFull if the history is full; else with EMFILE if there are too
+-- many clients; else memory may run out
 abbrev pub ConnectsMayFail : Type 0
 ConnectsMayFail =
     (rules : Rules) (room limit : ℕ) (history : List Entry) (ks end : List Knows)
@@ -55,8 +55,8 @@ ConnectsMayFail =
     × (seen_by ks < limit → TREE_CLIENTS ≤ length ks → (mid : Session) × Connects s (Refused EMFILE) mid)
     × (seen_by ks < limit → length ks < TREE_CLIENTS → Connects s (Refused NoMemory) s)
 
--- A session without clients has begun. At each point the entries are as many as one of the clients knows of; they are a
--- legal history, and lead to the tree; and at the end they are all that the tree was closed with
+-- A session without clients is a beginning. At each point it has as many entries as any of its clients knows of. These
+-- are a legal history, and lead to the tree. At the end they are all entries that the tree was closed with
 abbrev pub PointsAreLegal : Type 0
 PointsAreLegal =
     (rules : Rules) (room limit : ℕ) (history : List Entry) (end : List Knows)

@@ -1,5 +1,5 @@
--- How far a run has come. (Support of the functions below `run_script`: of public contracts only that of `write_reply`
--- cites this file.)
+-- How far a run is. (Support of the functions below `run_script`: of public contracts only that of `write_reply` cites
+-- this file.)
 use Rattle.std.specs.Prelude.{◌≡◌, ◌≢◌, ◌⊎◌, ◌<◌, ◌≤◌, ℕ, Bool, List, [], drop, Option, refl}
 use Rattle.std.proofs.Common.{◌∙◌}
 use Rattle.std.specs.Io.KnownBytes.{Appends}
@@ -36,30 +36,30 @@ abbrev pub reply_at : Refusal → Reply
 reply_at (AtConnect errno) = replies.Refused errno
 reply_at (AtCall reply) = reply
 
--- how the coming of a client ends that this kept from its calls
+-- how the arrival of a client ends that this refusal keeps from its calls
 abbrev pub coming_at : Refusal → Session → Coming
 coming_at (AtConnect errno) t = unconnected (replies.Refused errno) t
 coming_at (AtCall reply) t = unmade reply t
 
--- how an opening ends that is shut so
+-- how an opening ends that is refused like this
 abbrev pub opening_at : Shut → Session → Opening
 opening_at (shut.Refused reply) t = refused reply t
 opening_at shut.Stopped t = stopped
 
 -- ---- lines
 
--- the session to which the first so many clients don't belong
+-- the session without the first `before` clients, which don't belong to it
 abbrev pub without : ℕ → Session → Session
 without before s = record s { clients = drop before s.clients }
 
--- How a line is refused that wasn't read for this reason: a full history comes before want of memory
+-- The reply to a line that wasn't read for this reason: HistoryFull comes before NoMemory
 abbrev pub IsUnread : (limit : ℕ) → List Knows → (errno told : Errno) → List Knows → Type 0
 IsUnread limit ks errno told ks' =
     ((errno ≡ errnos.NoMemory) × Looks ks ks' × (limit ≤ seen_by ks') × (told ≡ errnos.HistoryFull))
     ⊎ ((errno ≡ errnos.NoMemory) × Looks ks ks' × (seen_by ks' < limit) × (told ≡ errnos.NoMemory))
     ⊎ ((errno ≢ errnos.NoMemory) × (ks' ≡ ks) × (told ≡ errno))
 
--- so many clients came before the session, as ever, and they have all come on
+-- as many clients as before came before the session, and all of them have made calls
 abbrev pub StandsOn : (limit before : ℕ) → List Knows → ℕ → List Knows → Type 0
 StandsOn limit before ks before' ks' = Goes limit ks ks' × (before' ≡ before)
 
@@ -70,7 +70,7 @@ pub stands_on : (limit i j k : ℕ) (is js ks : List Knows) → StandsOn limit i
     → StandsOn limit i is k ks
 stands_on limit i j k is js ks one two = (goes_on limit is js ks one.0 two.0, two.1 ∙ one.1)
 
--- the same of one with this score, which stays strict or not
+-- so has a session with this score, which stays strict or not
 abbrev pub ScoreStandsOn : (limit before : ℕ) → List Knows → Score → ℕ → List Knows → Score → Type 0
 ScoreStandsOn limit before ks score before' ks' score' =
     StandsOn limit before ks before' ks' × StaysAs score score'
@@ -86,25 +86,24 @@ score_stands_on limit i j k is js ks a b c one two = (
   (two.1.0 ∙ one.1.0, λ lax. two.1.1 (one.1.0 ∙ lax) ∙ one.1.1 lax),
 )
 
--- The tree was closed with these entries, and to the clients that it had then these came on, so
+-- the tree was closed with these entries, and its clients then were these, later
 abbrev pub Closes : Rules → (room limit : ℕ) → List Knows → List Entry → (Session → Session → Type 0) → Type 0
 Closes rules room limit ks entries Holds =
     (end : List Knows) × IsClosed rules room limit entries end × Leads rules room limit ks end Holds
 
--- the session's lines are answered up to what has ended it, and it ends with the entries of t
+-- the session's lines are answered up to its end, and it ends with the entries of t
 abbrev pub RunsTo : ℕ → (strict : Bool) → Score → (old new : Devices) → (s t : Session) → Type 0
 RunsTo before strict score old new s t =
     (last : Session) × ScoresTo Answers (without before s, first_score strict) (last, score) old new
     × (t.entries ≡ last.entries)
 
--- some first lines of it are
+-- some first lines of it are answered
 abbrev pub StopsAt : ℕ → (strict : Bool) → (old new : Devices) → (s t : Session) → Type 0
 StopsAt before strict old new s t =
     (last : Session) × (score : Score)
     × StartsAll (Scores Answers) (without before s, first_score strict) (last, score) old new
 
--- what is written of a refusal's line that this fault kept from being written whole: a beginning where the write
--- failed, and nothing where memory was wanted
+-- What is written of a refusal's line after this fault: a prefix if the write failed, and nothing if memory ran out
 abbrev pub IsOfRefusal : SessionFault → (old new : Option (List ℕ)) → List ℕ → Type 0
 IsOfRefusal fault.Read old new line = ⊥
 IsOfRefusal fault.Write old new line = AppendsFront old new line

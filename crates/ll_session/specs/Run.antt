@@ -23,11 +23,11 @@ use Rattle.ll_session.specs.declared.stop.Stop.{Stop}
 abbrev pub MayBegin : Setup → Type 0
 MayBegin setup = (first : Session) × Opens setup (begun first)
 
--- one of the calls of the opening may be refused by a line that is written
+-- the opening may be refused with a line that is written
 abbrev pub MayRefuse : Setup → Type 0
 MayRefuse setup = (reply : Reply) × (last : Session) × Opens setup (refused reply last)
 
--- The fault may end a run of this setup. Only a session that was begun reads; memory may be wanted at any time
+-- The fault may end a run with this setup. Only a session that began reads; memory may run out at any time
 abbrev pub MayEnd : Setup → RunFault → Type 0
 MayEnd setup run.Opening = Opens setup stopped
 MayEnd setup (run.Session fault.Read) = MayBegin setup
@@ -35,7 +35,8 @@ MayEnd setup (run.Session fault.Write) = MayBegin setup ⊎ MayRefuse setup
 MayEnd setup (run.Session fault.NoMemory) = ⊤
 MayEnd setup (run.Session fault.TooLong) = MayBegin setup
 
--- A run over these pieces writes their transcript and leaves none, or writes the refusal and leaves all. It ends there
+-- A run over these pieces writes their transcript and leaves none; or it writes the refusal and leaves all. It ends
+-- with this session
 abbrev pub RunsOver : Setup → (done left : List (List ℕ)) → List ℕ → Session → Type 0
 RunsOver setup done left text last =
     ((first : Session) × Opens setup (begun first) × (left ≡ []) × Transcript Tells first done text last)
@@ -46,27 +47,27 @@ abbrev pub Runs : Setup → (input left text : List ℕ) → List Entry → Type
 Runs setup input left text entries =
     (last : Session) × RunsOver setup (pieces input) (pieces left) text last × (entries ≡ last.entries)
 
--- what a run of this setup reads and writes, strict or not, and what it leaves
+-- what a run with this setup reads, writes and leaves, strict or not
 abbrev pub RunsAs : (strict : Bool) → Setup → (input : List ℕ) → (remaining : Option (List ℕ)) → (text : List ℕ)
     → Option Stop → List Entry → Type 0
 RunsAs false setup input remaining text stop entries =
     (left : List ℕ) × (remaining ≡ Some left) × Runs setup input left text entries
 RunsAs true setup input remaining text stop entries = RunsStrictly setup input text stop entries
 
--- a run that a fault ends has written a beginning of what one over some first pieces writes
+-- a run that a fault ends has written a prefix of what a run over some first pieces writes
 abbrev pub Begins : Setup → (input text : List ℕ) → Type 0
 Begins setup input text =
     (done left more : List (List ℕ)) × (back : List ℕ) × (last : Session) × (pieces input ≡ done ++ more)
     × RunsOver setup done left (text ++ back) last
 
--- ---- the same, told by what the devices count
+-- ---- in terms of what the devices count
 
--- the fault ends a run of this setup, and is blamed on the device that failed in it
+-- the fault ends a run with this setup, and names the device that failed in it
 abbrev pub EndsBy : Setup → RunFault → (old new : Devices) → Type 0
 EndsBy setup run.Opening old new = Opens setup stopped × IsWhole new
 EndsBy setup (run.Session of) old new = Blames of old new
 
--- a beginning of the lines of some first pieces, in a session that was opened, and may be strict
+-- a prefix of the lines for some first pieces, in a session that was opened, strict or not
 abbrev pub BeginsLines : (strict : Bool) → Setup → (input text : List ℕ) → Type 0
 BeginsLines false setup input text =
     (first last : Session) × (done more : List (List ℕ)) × (back : List ℕ) × Opens setup (begun first)
@@ -76,13 +77,13 @@ BeginsLines true setup input text =
     × Opens setup (begun first) × (pieces input ≡ done ++ more)
     × Transcript TellsStrictly (first, None) done (text ++ back) (last, end)
 
--- a beginning of the line of a refused opening
+-- a prefix of the line of a refused opening
 abbrev pub BeginsRefusal : Setup → List ℕ → Type 0
 BeginsRefusal setup text =
     (reply : Reply) × (last : Session) × (back : List ℕ) × Opens setup (refused reply last)
     × (reply_line reply ≡ text ++ back)
 
--- What a run has written that this fault ends. Only a failed write cuts a refusal's line short: it reads nothing
+-- What a run has written that this fault ends. Only a failed write cuts a refusal's line short: nothing is read then
 abbrev pub BeginsBy : (strict : Bool) → Setup → RunFault → (input text : List ℕ) → Type 0
 BeginsBy strict setup run.Opening input text = text ≡ []
 BeginsBy strict setup (run.Session fault.Read) input text = BeginsLines strict setup input text
@@ -91,7 +92,7 @@ BeginsBy strict setup (run.Session fault.Write) input text =
 BeginsBy strict setup (run.Session fault.NoMemory) input text = (text ≡ []) ⊎ BeginsLines strict setup input text
 BeginsBy strict setup (run.Session fault.TooLong) input text = BeginsLines strict setup input text
 
--- the entries of a run, line after line, are a legal history of its tree, and lead to the tree that it has then
+-- the entries of a run, line after line, are a legal history of its tree, and lead to the tree at that point
 abbrev pub RunsLegally : Type 0
 RunsLegally =
     (setup : Setup) (done left : List (List ℕ)) (text : List ℕ) (last : Session) → RunsOver setup done left text last →

@@ -1,4 +1,4 @@
--- The line that each piece gives in a session. own
+-- The line that answers each piece in a session. own
 use Rattle.std.specs.Prelude.{◌≡◌, ℕ, ◌+◌, ◌-◌, ◌<◌, true, false, List, length, Some, None}
 use Rattle.std.specs.Prelude.{slice_get}
 use Rattle.std.specs.List.{All}
@@ -20,8 +20,8 @@ abbrev pub as_written : List ℕ → Reply → Reply
 as_written clients (Spawned number) = Spawned (length clients + 1)
 as_written clients reply = reply
 
--- A piece that spells a call of a client of the session gets the reply to that call, or, where the history has room and
--- the call holds a word or bytes, want of memory to read them; every other piece gets `refused 23 BadLine`
+-- A piece that spells a call of a client of the session gets the reply to that call. If the history has room and the
+-- call has a word or bytes, it may get NoMemory instead. Every other piece gets `refused 23 BadLine`
 pub data Answers (s : Session) (piece : List ℕ) : Reply → Session → Type 0 where
   calls : (n client : ℕ) (call : Call) (reply : Reply) (t : Session) → SpellsCommand piece n call
       → slice_get s.clients (n - 1) ≡ Some client → Called s client call reply t

@@ -1,5 +1,5 @@
--- Strict runs: they end at the first line that says nothing, and so that nothing goes on with fewer layers than were
--- asked for. own
+-- Strict runs: they end at the first line that isn't a command, so that nothing goes on with fewer layers than asked
+-- for. own
 use Rattle.std.specs.Prelude.{◌≡◌, ◌⊎◌, ◌&&◌, ℕ, Bool, true, false, List, ◌++◌, length, Option, Some, None, is_some}
 use Rattle.ll_rights.specs.declared.errno.Errno.TheVariants.{BadLine, HistoryFull, NoMemory}
 use Rattle.ll_seq.specs.declared.call.Call.{Call}
@@ -22,7 +22,7 @@ use Rattle.ll_session.specs.declared.setup.Setup.{Setup}
 use Rattle.ll_session.specs.declared.stop.Stop.{Stop}
 use Rattle.ll_session.specs.declared.stop.Stop.TheVariants.{AtOpening, AtLine}
 
--- the calls by which layers are made, and clients that have them
+-- the calls that set up layers, or create clients that have them
 abbrev pub is_of_layers : Call → Bool
 is_of_layers (Ruleset rights) = true
 is_of_layers (Allow number target rights) = true
@@ -30,49 +30,49 @@ is_of_layers (Confine number) = true
 is_of_layers Spawn = true
 is_of_layers call = false
 
--- this reply ends a strict run, to a call of layers or to another one
+-- this reply ends a strict run, for a call that sets up layers or for another one
 abbrev pub ends_strictly : (of_layers : Bool) → Reply → Bool
 ends_strictly of_layers (Refused BadLine) = true
 ends_strictly of_layers (Refused HistoryFull) = true
 ends_strictly of_layers (Refused NoMemory) = true
 ends_strictly of_layers reply = of_layers && is_refusal reply
 
--- this reply to the call does
+-- this reply to the call ends a strict run
 abbrev pub is_end : Call → Reply → Bool
 is_end call reply = ends_strictly (is_of_layers call) reply
 
--- the reply to this piece, where it ends a strict run
+-- the reply to this piece, if it ends a strict run
 abbrev pub IsEnd : (piece : List ℕ) → Reply → Option Reply → Type 0
 IsEnd piece reply None = (n : ℕ) × (call : Call) × SpellsCommand piece n call × (is_end call reply ≡ false)
 IsEnd piece reply (Some last) =
     (last ≡ reply) × ((reply ≡ Refused BadLine)
     ⊎ ((n : ℕ) × (call : Call) × SpellsCommand piece n call × (is_end call reply ≡ true)))
 
--- the same of a session that may be strict: no reply ends another one
+-- the reply that ends a session, strict or not: none ends one that isn't strict
 abbrev pub EndsAt : (strict : Bool) → (piece : List ℕ) → Reply → Option Reply → Type 0
 EndsAt false piece reply end = end ≡ None
 EndsAt true piece reply end = IsEnd piece reply end
 
 module _ {S : Type 0} (Answers : S → List ℕ → Reply → S → Type 0) where
-  -- Where no reply has ended the run yet, the piece gets this line, whose reply may end it
+  -- if no reply has ended the run yet, the piece gets this line, and its reply may end it
   abbrev pub GoesOn : S × Option Reply → (piece line : List ℕ) → S × Option Reply → Type 0
   GoesOn s piece line t =
       (s.1 ≡ None) × ((reply : Reply) × Answers s.0 piece reply t.0 × (line ≡ reply_line reply) × IsEnd piece reply t.1)
 
-  -- the same of a session that may be strict, and counts the reply
+  -- so does a piece of a session that counts its replies, strict or not
   abbrev pub Scores : S × Score → (piece line : List ℕ) → S × Score → Type 0
   Scores s piece line t =
       (s.1.end ≡ None) × ((reply : Reply) × Answers s.0 piece reply t.0 × (line ≡ reply_line reply)
       × EndsAt s.1.is_strict piece reply t.1.end × (t.1.tally ≡ counted s.1.tally reply)
       × (t.1.is_strict ≡ s.1.is_strict))
 
-  -- Lines are answered from s to t: all, or those up to the one that has ended the session
+  -- lines are answered from s to t: all of them, or those up to the one that ended the session
   abbrev pub ScoresTo : (s t : S × Score) → (old new : Devices) → Type 0
   ScoresTo s t old new =
       (is_some t.1.end ≡ false → AnswersAll Scores s t old new)
       × (is_some t.1.end ≡ true → AnswersFirst Scores s t old new)
 
--- so does a strict session of a tree that nobody else calls on
+-- the lines of a strict session on a tree that nobody else calls
 abbrev pub TellsStrictly : Session × Option Reply → (piece line : List ℕ) → Session × Option Reply → Type 0
 TellsStrictly = GoesOn Answers
 

@@ -1,4 +1,4 @@
--- How the clients of a shared tree come on that one session owns: it makes their calls one after the other. own
+-- How the clients of a shared tree change that one session owns and that call one after the other. own
 use Rattle.std.specs.Prelude.{◌≡◌, ◌⊎◌, ℕ, ◌<◌, ◌≤◌, max, Bool, true, false, List, [], ◌∷◌, ◌++◌, None, Some}
 use Rattle.std.specs.Prelude.{slice_get, slice_set}
 use Rattle.ll_rights.specs.declared.errno.Errno.TheVariants as errnos
@@ -12,7 +12,7 @@ use Rattle.ll_journal.specs.declared.direct.Made.{Made}
 use Rattle.ll_client.specs.Entries.{Knows, knows, numbered}
 use Rattle.ll_client.specs.Gains.{Gains, Told}
 
--- the number of the last entry that one of them knows of
+-- the number of the last entry that any of them knows of
 abbrev pub seen_by : List Knows → ℕ
 seen_by [] = 0
 seen_by (k ∷ ks) = max k.seen (seen_by ks)
@@ -21,32 +21,32 @@ seen_by (k ∷ ks) = max k.seen (seen_by ks)
 abbrev pub met : List Knows → Knows → Knows
 met ks k = record k { seen = seen_by ks }
 
--- The client at this place knows of all that one of them knows of, or nobody is there
+-- the client at this place knows of all that any of them knows of, or there is no client
 abbrev pub IsLast : List Knows → ℕ → Type 0
 IsLast ks place = (ks ≡ []) ⊎ ((k : Knows) × (slice_get ks place ≡ Some k) × (k.seen ≡ seen_by ks))
 
--- it has met all of them
+-- the client at this place has met all of them
 abbrev pub IsMet : List Knows → ℕ → List Knows → Type 0
 IsMet ks place ks' = (me : Knows) × (slice_get ks place ≡ Some me) × (ks' ≡ slice_set ks place (met ks me))
 
--- the clients at these two places have met: both know of all that one of them knew of
+-- the clients at these two places have met: both know of all that either knew of
 abbrev pub HaveMet : List Knows → (one other : ℕ) → List Knows → Type 0
 HaveMet ks one other ks' = (a : Knows) × (b : Knows) × (slice_get ks one ≡ Some a) × (slice_get ks other ≡ Some b)
     × (ks' ≡ slice_set (slice_set ks one (record a { seen = max a.seen b.seen })) other
     (record b { seen = max a.seen b.seen }))
 
--- it brings a child
+-- the call created a child
 abbrev pub is_birth : Made → Bool
 is_birth (made.Replied (Spawned number)) = true
 is_birth _ = false
 
--- how a call is answered that this came of
+-- the reply to a call with this result
 abbrev pub reply_of : Made → Reply
 reply_of (made.Replied reply) = reply
 reply_of made.HistoryFull = Refused errnos.HistoryFull
 reply_of made.NoMemory = Refused errnos.NoMemory
 
--- The client at this place has met all others, and calls: that is no connect, and brings no child
+-- The client at this place has met all others, and makes the call. It isn't a connect, and creates no child
 pub record Asks (limit : ℕ) (ks : List Knows) (place : ℕ) (call : Call) (made : Made) (ks' : List Knows) : Type 0 where
   pub me : Knows
   pub now : Knows
@@ -56,7 +56,7 @@ pub record Asks (limit : ℕ) (ks : List Knows) (place : ℕ) (call : Call) (mad
   pub gains : Gains limit call (met ks me) made now
   pub after : ks' ≡ slice_set ks place now
 
--- it spawns this child, which comes last
+-- the client at this place spawns this child, which is the last client
 pub record Spawns (ks : List Knows) (place child : ℕ) (ks' : List Knows) : Type 0 where
   pub me : Knows
   pub now : Knows
@@ -64,13 +64,13 @@ pub record Spawns (ks : List Knows) (place child : ℕ) (ks' : List Knows) : Typ
   pub told : Told Spawn (Spawned child) (met ks me) now
   pub after : ks' ≡ slice_set ks place now ++ knows child [] [] now.seen None ∷ []
 
--- The call of the client at this place gets this reply: it brings a child, or nobody
+-- the call of the client at this place gets this reply; it creates a child or not
 abbrev pub AsksFor : (limit : ℕ) → List Knows → (place : ℕ) → Call → Reply → List Knows → Type 0
 AsksFor limit ks place call reply ks' =
     ((child : ℕ) × (call ≡ Spawn) × Spawns ks place child ks' × (reply ≡ Spawned child))
     ⊎ ((it : Made) × Asks limit ks place call it ks' × (reply ≡ reply_of it))
 
--- a client connects, whose entry stands after all that one of them knows of
+-- a client connects, with an entry later than all that any of them knows of
 pub record Joins (ks : List Knows) (number : ℕ) (ks' : List Knows) : Type 0 where
   pub seen : ℕ
   pub later : seen_by ks < seen
@@ -84,18 +84,18 @@ pub record LooksAt (ks : List Knows) (place : ℕ) (ks' : List Knows) : Type 0 w
   pub later : seen_by ks ≤ seen
   pub after : ks' ≡ slice_set ks place (record me { seen = seen })
 
--- one of them does, if somebody is there
+-- one of them does, if there is a client
 abbrev pub Looks : (ks ks' : List Knows) → Type 0
 Looks ks ks' = ((ks ≡ []) × (ks' ≡ [])) ⊎ ((place : ℕ) × LooksAt ks place ks')
 
--- They have called, and looked at how long the history is, so often
+-- they have made calls, and looked at the history's length, any number of times
 pub data Goes (limit : ℕ) (ks : List Knows) : List Knows → Type 0 where
   nowhere : Goes limit ks ks
   asks : (mid ks' : List Knows) (place : ℕ) (call : Call) (reply : Reply) → Goes limit ks mid
       → AsksFor limit mid place call reply ks' → Goes limit ks ks'
   looks : (mid ks' : List Knows) → Goes limit ks mid → Looks mid ks' → Goes limit ks ks'
 
--- one after the other
+-- first one, then the other
 pub goes_on : (limit : ℕ) (is js ks : List Knows) → Goes limit is js → Goes limit js ks → Goes limit is ks
 goes_on limit is js ks one nowhere = one
 goes_on limit is js ks one (asks mid end place call reply before act) =

@@ -1,5 +1,5 @@
 -- One stream's session: a client comes, makes the calls of its profile, and answers the stream's lines, while others
--- call on the same tree. What becomes of it is told by what its clients know. own
+-- call on the same tree. Stated in terms of what its clients know. own
 use Rattle.std.specs.Prelude.{◌≡◌, ◌⊎◌, ℕ, List, [], ◌∷◌, Option, None, Some, true, OnOk, IfErr}
 use Rattle.std.specs.Io.KnownBytes.{Appends}
 use Rattle.ll_rights.specs.declared.errno.Errno.{Errno}
@@ -21,22 +21,22 @@ use Rattle.ll_session.specs.declared.tally.Tally.{Tally}
 use Rattle.ll_wire.specs.Grammar.{reply_line}
 use Rattle.ll_wire.specs.Writing.{AppendsFront}
 
--- a client has come: it knows of its connect, and of no entry after it
+-- a client has just come: it knows of its connect, and of no later entry
 abbrev pub HasCome : Knows → Type 0
 HasCome me = me ≡ knows me.number (numbered me.seen Connect Done ∷ []) [] me.seen None
 
 module _ (limit : ℕ) (profile : List Call) where
-  -- The client has come and has made its profile's calls: it, and those that it has spawned
+  -- the client has come and has made its profile's calls; these are it and the clients that it spawned
   abbrev pub IsReady : List Knows → Type 0
   IsReady ks = (me : Knows) × HasCome me × MakesBeside limit (me ∷ []) 0 profile ks
 
-  -- Its connect is refused by this reply, and nobody has come; or one of the profile's calls is
+  -- its connect is refused with this reply, and there is no client; or one of the profile's calls is
   abbrev pub IsTurnedAway : Reply → List Knows → Type 0
   IsTurnedAway reply ks =
       ((errno : Errno) × HasNoPlace errno × (reply ≡ Refused errno) × (ks ≡ []))
       ⊎ ((me : Knows) × HasCome me × StopsBeside limit (me ∷ []) 0 profile reply ks)
 
-  -- A whole visit answered all that it read, and counted it; or it read nothing and told the refusal
+  -- a whole visit answered all that it read, and counted it; or it read nothing and wrote the refusal
   abbrev pub Visits : (old new : Devices) → Option Reply → Tally → List Knows → Type 0
   Visits old new None tally ks =
       (first : List Knows) × IsReady first × AnswersAll (CountsBeside limit 0) (first, nothing) (ks, tally) old new
@@ -44,7 +44,7 @@ module _ (limit : ℕ) (profile : List Call) where
       IsTurnedAway reply ks × (tally ≡ counted nothing reply) × (new.remaining ≡ old.remaining)
       × Appends old.contents new.contents (reply_line reply)
 
-  -- A visit that a fault ends answered some first lines, or told a beginning of the refusal
+  -- a visit that a fault ended answered some first lines, or wrote a prefix of the refusal
   abbrev pub Starts : (old new : Devices) → Option Reply → Tally → List Knows → Type 0
   Starts old new None tally ks =
       (first : List Knows) × IsReady first × StartsAll (CountsBeside limit 0) (first, nothing) (ks, tally) old new
@@ -52,14 +52,14 @@ module _ (limit : ℕ) (profile : List Call) where
       IsTurnedAway reply ks × (tally ≡ counted nothing reply) × (new.remaining ≡ old.remaining)
       × AppendsFront old.contents new.contents (reply_line reply)
 
-  -- with this fault; before anybody has come, memory may be wanted
+  -- it ended with this fault. Before any client comes, memory may run out
   abbrev pub StartsBy : SessionFault → (old new : Devices) → Option Reply → Tally → List Knows → Type 0
   StartsBy fault.NoMemory old new refusal tally ks =
       ((ks ≡ []) × (new ≡ old) × (refusal ≡ None) × (tally ≡ nothing)) ⊎ Starts old new refusal tally ks
   StartsBy other old new refusal tally ks = Starts old new refusal tally ks
 
-  -- A stream was served and ended so, with these clients, or its client was turned away by this reply: by what its
-  -- reader tells to be left, and its writer to be written
+  -- A stream was served and ended like this, with these clients, or its client was turned away with this reply. It is
+  -- stated by what its reader has left and its writer has written
   abbrev pub WasServedSo : {R W : Type 0} → (R → Option (List ℕ)) → (W → Option (List ℕ)) → Outcome → Option Reply
       → (came went : Stream R W) → List Knows → Type 0
   WasServedSo remaining contents outcome refusal came went ks =
@@ -68,7 +68,7 @@ module _ (limit : ℕ) (profile : List Call) where
       × OnOk outcome.ended (Visits old new refusal outcome.tally ks)
       × IfErr outcome.ended (λ fault. StartsBy fault old new refusal outcome.tally ks × Blames fault old new)
 
-  -- it was served so, whether its client was turned away or not
+  -- it was served like that, whether its client was turned away or not
   abbrev pub WasServed : {R W : Type 0} → (R → Option (List ℕ)) → (W → Option (List ℕ)) → Outcome
       → (came went : Stream R W) → List Knows → Type 0
   WasServed remaining contents outcome came went ks =

@@ -18,32 +18,32 @@ use std::sync::Wait;
 use std::sync::atomic::{AtomicU64, Ordering};
 use std::thread::Threads;
 
-/// What streams come from.
+/// Where streams come from.
 pub trait Accepts {
     type In: Read + Send + Drop;
 
     type Out: Write + Send + Drop;
 
-    /// The two ends of the next stream, when it has come. None where it failed.
+    /// Waits for the next stream and returns its two ends. None if it failed.
     fn accept(&self) -> Option<(Self::In, Self::Out)>;
 }
 
-// Streams as they come to a listener, so many in all. A worker that takes a stream first accepts the next one that
-// comes and sends it over the channel, and then takes one out of the channel. So no worker waits for another one to
-// accept, and each stream that was sent is taken. A stream's number is drawn once it has come.
+// The streams of a listener, a limited number in all. A worker that takes a stream first accepts the next one and sends
+// it over the channel, and then takes one out of the channel. So no worker waits for another one to accept, and each
+// stream that was sent is taken. A stream gets its number after it came.
 #[derive(Drop)]
 struct Coming<'a, L: Accepts> {
     listener: &'a L,
     sender: Sender<Stream<L::In, L::Out>>,
     streams: Receiver<Stream<L::In, L::Out>>,
-    // How many streams workers have set out to accept.
+    // How many streams the workers have begun to accept.
     awaited: AtomicU64,
     come: AtomicU64,
     connections: usize,
 }
 
 impl<'a, L: Accepts> Takes<L::In, L::Out> for Coming<'a, L> {
-    // One that failed counts, and one that can't be handed over is closed.
+    // Takes the next stream. A failed one counts, and one that can't be handed over is closed.
     fn take<H: Wait>(&self, rt: &H) -> Option<Stream<L::In, L::Out>> {
         for _ in 0..self.connections {
             let before = self.awaited.fetch_add(1, Ordering::SeqCst);
@@ -67,9 +67,9 @@ impl<'a, L: Accepts> Takes<L::In, L::Out> for Coming<'a, L> {
     }
 }
 
-/// So many threads accept so many streams in all, and serve each. Where some of the threads can't be started, the
-/// others accept and serve. Gives what is left of each stream that was served, as `serve_streams` does. Errors: there
-/// is no memory for that.
+/// Accepts streams with several threads, a limited number in all, and serves each. If some of the threads can't be
+/// started, the others accept and serve. Returns what is left of each served stream, as `serve_streams` does. Errors:
+/// memory for that ran out.
 pub fn serve_on<
     N: Shape + Send + Sync,
     G: Gate<N> + Sync,

@@ -15,8 +15,8 @@ use ll_wire::{Line, read_command};
 use std::alloc::Global;
 use std::sync::Wait;
 
-/// A session under way: its tree, a party of which so many clients came before the session, and then its own, who keeps
-/// the history, and how far it is kept.
+/// A session under way: its tree; a party, whose first clients came before the session, and then its own; who keeps the
+/// history, and how much of it is kept.
 #[derive(Drop)]
 pub struct OpenSession<'a, N: Shape, R: Wait, G: Gate<N>, K: Keeps> {
     pub rt: &'a R,
@@ -29,14 +29,14 @@ pub struct OpenSession<'a, N: Shape, R: Wait, G: Gate<N>, K: Keeps> {
     ghost some: { before < length party },
 }
 
-// Whether memory is wanted.
+// Reports whether the refusal is NoMemory.
 fn wants_memory(errno: Errno) -> bool
     ensures { IsTrue result ↔ (errno ≡ Errno.NoMemory) }
 {
     matches!(errno, Errno::NoMemory)
 }
 
-// A reply as it is written where the session has so many clients: the newest is told by its place.
+// Returns the reply as it is written in a session with this many clients: lines name the newest by its place.
 fn placed(clients: u64, reply: Reply) -> Reply
     ensures { result ≡ placed clients reply }
 {
@@ -53,7 +53,7 @@ impl<'a, N: Shape, R: Wait, G: Gate<N>, K: Keeps> OpenSession<'a, N, R, G, K> {
     ghost use Rattle.ll_session.specs.Progress.{IsUnread};
     ghost use Rattle.ll_session.specs.Strict.{IsEnd};
 
-    // How many clients the session has.
+    // Returns the number of the session's clients.
     fn clients(&self) -> u64
         ensures count { result + self.now.before ≡ length self.now.party }
         ensures some { 1 ≤ result }
@@ -62,7 +62,7 @@ impl<'a, N: Shape, R: Wait, G: Gate<N>, K: Keeps> OpenSession<'a, N, R, G, K> {
         self.party.len() - self.before
     }
 
-    // How a line is refused that wasn't read for this reason. A full history comes before want of memory.
+    // Returns the refusal of a line that wasn't read for this reason. HistoryFull comes before NoMemory.
     fn unread(&mut self, errno: Errno) -> Errno
         ensures told { IsUnread N.limit self.old.party errno result self.new.party }
         ensures before { self.new.before ≡ self.old.before }
@@ -78,8 +78,8 @@ impl<'a, N: Shape, R: Wait, G: Gate<N>, K: Keeps> OpenSession<'a, N, R, G, K> {
         }
     }
 
-    /// Makes the call that the line spells. How the line is answered, whether it spells one or not, and whether that
-    /// ends a strict session.
+    /// Makes the call that the line spells. Returns the reply, also to a line that spells none, and whether that ends a
+    /// strict session.
     pub fn reply(&mut self, line: &Line) -> (Reply, bool)
         ensures answers { (piece : List ℕ) → Holds line.now piece
             → AnswersBeside N.limit self.old.before self.old.party piece result.0 self.new.party }
@@ -104,7 +104,7 @@ impl<'a, N: Shape, R: Wait, G: Gate<N>, K: Keeps> OpenSession<'a, N, R, G, K> {
         }
     }
 
-    /// Keeps all entries that its clients know of.
+    /// Has the keeper keep all entries that the session's clients know of.
     pub fn keep(&mut self)
         ensures kept { AreKept self.new.kept self.new.party }
         ensures party { self.new.party ≡ self.old.party }
@@ -113,7 +113,7 @@ impl<'a, N: Shape, R: Wait, G: Gate<N>, K: Keeps> OpenSession<'a, N, R, G, K> {
         self.kept = self.keeper.keep(self.rt, self.tree, &mut self.party);
     }
 
-    /// Keeps all entries that its clients know of, and leaves these.
+    /// Keeps all entries that the session's clients know of, and returns all clients.
     pub fn close(self) -> Party<N>
         ensures { result ≡ self.entry.party }
     {

@@ -10,14 +10,14 @@ use ll_client::Shape;
 use ll_seq::{Call, Reply};
 use std::sync::Wait;
 
-// Whether the call is refused, or denied.
+// Reports whether the call is refused or denied.
 fn is_refused(reply: &Reply) -> bool
     ensures { result ≡ is_refusal reply.now }
 {
     matches!(reply, Reply::Refused(_) | Reply::Denied(_))
 }
 
-// The reply, where the call is refused.
+// Errors: the reply, if the call is refused or denied.
 fn unless_refused(reply: Reply) -> Result<(), Reply>
     ensures ok { OnOk result (is_refusal reply ≡ false) }
     ensures err { IfErr result (λ told. (told ≡ reply) × (is_refusal reply ≡ true)) }
@@ -29,7 +29,7 @@ fn unless_refused(reply: Reply) -> Result<(), Reply>
     Ok(())
 }
 
-/// Makes the calls of the client at this place in turn, up to the first that is refused, whose reply is the error.
+/// Makes the calls of the client at this place in turn. Errors: the reply to the first that is refused or denied.
 pub fn make_calls<N: Shape, R: Wait, G: Gate<N>>(
     rt: &R,
     tree: &Tree<N, G>,

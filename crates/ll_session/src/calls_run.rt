@@ -21,16 +21,16 @@ use std::alloc::{AllocError, Global};
 use std::marker::Brand;
 use std::sync::Wait;
 
-/// What a run of calls comes to.
+/// The result of a run of calls.
 #[derive(Drop)]
 pub enum CallReplies {
     /// The replies to the calls, in their order.
     Answered(Vec<Reply>),
-    /// None was made, since a connect or a profile's call gets this refusal.
+    /// No call was made: a connect or a profile's call got this refusal.
     Refused(Reply),
 }
 
-// The reply as a session of so many clients is told it: the newest client is told by its place.
+// Returns the reply as a session with this many clients gets it: the newest client is named by its place.
 fn by_place(clients: u64, reply: Reply) -> Reply
     ensures { result ≡ placed clients reply }
 {
@@ -44,7 +44,8 @@ impl<N: Shape> Shared<N> {
     ghost use Rattle.ll_session.specs.Beside.{AnswersBeside};
     ghost use Rattle.ll_session.specs.CallsRun.{RepliedBeside, call_line};
 
-    // Makes the call in a session that so many clients came before. Whoever isn't there gets `refused 23 BadLine`.
+    // Makes the call in a session that this many clients came before. If the caller doesn't exist, the reply is
+    // `refused 23 BadLine`.
     fn reply_to<R: Wait>(&mut self, rt: &R, before: u64, made: ClientCall) -> Reply
         requires { before < length self.old.party }
         ensures answers { AnswersBeside N.limit before self.old.party (call_line made) result self.new.party }
@@ -61,7 +62,7 @@ impl<N: Shape> Shared<N> {
         by_place(self.len() - before, reply)
     }
 
-    // Makes each call in turn.
+    // Makes each call in turn. Returns the replies.
     fn reply_all<R: Wait>(
         &mut self,
         rt: &R,
@@ -82,7 +83,7 @@ impl<N: Shape> Shared<N> {
     }
 }
 
-// Makes each call in turn, and closes the tree. Its history is left.
+// Makes each call in turn, and closes the tree. Returns the replies and the history.
 fn reply_and_close<N: Shape, R: Wait>(
     rt: &R,
     alloc: Global,
@@ -107,7 +108,7 @@ fn reply_and_close<N: Shape, R: Wait>(
     }
 }
 
-// The run, over a tree that this blank is of.
+// Runs the calls on a tree with this blank.
 fn run_calls_in<N: Shape, R: Wait>(
     rt: &R,
     alloc: Global,
@@ -144,8 +145,9 @@ fn run_calls_in<N: Shape, R: Wait>(
     }
 }
 
-/// Makes calls one after the other on a tree of their own, which is opened as a script's is. The history is left, with
-/// an entry for each call that the tree has answered. Errors: a loader's call is refused, or memory ran out.
+/// Makes calls one after the other on a new tree, which is opened as a script's is. Returns the replies and the
+/// history, which has an entry for each call that the tree answered. Errors: a loader's call is refused, or memory ran
+/// out.
 pub fn run_calls<R: Wait>(
     rt: &R,
     alloc: Global,
@@ -162,7 +164,7 @@ pub fn run_calls<R: Wait>(
     }
 }
 
-/// A script of the lines that spell these calls gets the lines of these replies.
+/// A script with the lines of these calls gets the lines of these replies.
 pub fn lines_get_the_replies()
     ensures { LinesGetTheReplies }
 {}

@@ -14,7 +14,7 @@ use std::alloc::Global;
 use std::io::{Write, empty};
 use std::sync::{Mutex, Wait};
 
-/// A device to which the lines of entries are written, page after page.
+/// A device that the lines of entries are written to, page after page.
 #[derive(Drop)]
 pub struct Pages<W> {
     pub writer: W,
@@ -22,14 +22,14 @@ pub struct Pages<W> {
     pub is_broken: bool,
 }
 
-/// A device to which a history's entries are written as they are made, each in its line. It is shared by all who make
-/// entries. It isn't called again once it has failed, nor once memory was wanted for a line.
+/// A device that the entries of a history are written to as they are made, a line each. Everybody who makes entries
+/// shares it. It isn't called again after it failed, nor after memory ran out for a line.
 #[derive(Drop)]
 pub struct Chronicle<W> {
     pages: Mutex<Pages<W>>,
 }
 
-// Writes the whole text. No failure is tried again.
+// Writes the whole text. Doesn't retry after a failure.
 fn write_text<W: Write>(writer: &mut W, text: &str) -> Result<(), Broken>
     ensures ok { OnOk result (Appends (W.contents writer.old) (W.contents writer.new) text.now) }
     ensures err { OnErr result (AppendsFront (W.contents writer.old) (W.contents writer.new) text.now) }
@@ -53,7 +53,7 @@ impl<W: Write> Pages<W> {
     ghost use Rattle.ll_session.specs.Talk.{seen_by};
     ghost use Rattle.ll_session.specs.Keeping.{Turns};
 
-    // How far the history is kept.
+    // Returns how much of the history is kept.
     fn kept(&self) -> Kept
         ensures { result ≡ kept_of self.now }
     {
@@ -63,7 +63,7 @@ impl<W: Write> Pages<W> {
         Kept::UpTo(self.page.first)
     }
 
-    // Writes the page. What is counted as written rises only where all of it was.
+    // Writes the page. The count of written entries grows only if all of it was written.
     fn write_page(&mut self)
         requires { self.old.is_broken ≡ false }
         ensures ok { self.new.is_broken ≡ false → Appends (W.contents self.old.writer) (W.contents self.new.writer)
@@ -80,7 +80,7 @@ impl<W: Write> Pages<W> {
         }
     }
 
-    // Reads the next page of the tree's history, and writes it. Whether it was the last, or can't be written.
+    // Reads the next page of the tree's history, and writes it. Returns whether it was the last, or can't be written.
     fn turn<N: Shape, R: Wait, G: Gate<N>>(
         &mut self,
         rt: &R,
@@ -107,7 +107,7 @@ impl<W: Write> Pages<W> {
         true
     }
 
-    // Writes all entries that one of these clients knows of, page after page.
+    // Writes all entries that any of these clients knows of, page after page.
     fn write_up<N: Shape, R: Wait, G: Gate<N>>(
         &mut self,
         rt: &R,
@@ -131,7 +131,7 @@ impl<W: Write> Pages<W> {
         unreachable!()
     }
 
-    // The same. How far the history is kept then.
+    // Writes those entries too. Returns how much of the history is kept then.
     fn keep<N: Shape, R: Wait, G: Gate<N>>(
         &mut self,
         rt: &R,
@@ -148,7 +148,7 @@ impl<W: Write> Pages<W> {
 }
 
 impl<W: Write> Chronicle<W> {
-    /// A chronicle without entries. Its header is written already.
+    /// Returns a chronicle without entries. Its header must be written already.
     pub fn new(alloc: Global, writer: W) -> Chronicle<W> {
         Chronicle {
             pages: Mutex::new(Pages {
@@ -159,7 +159,7 @@ impl<W: Write> Chronicle<W> {
         }
     }
 
-    /// The device, and whether it failed, or memory was wanted.
+    /// Returns the device, and whether it failed or memory ran out.
     pub fn into_parts(self) -> (W, bool) {
         let Chronicle { pages } = self;
         let Pages {

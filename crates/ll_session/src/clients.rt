@@ -1,4 +1,4 @@
-//! What clients do that are in one hand.
+//! What clients do that one owner has.
 
 ghost use Rattle.std.specs.Prelude.{◌≡◌, ℕ, ◌+◌, ◌<◌, length, map, vec_len};
 ghost use Rattle.ll_rights.specs.declared.limits.TheConstants.{TREE_CLIENTS};
@@ -13,7 +13,7 @@ use ll_seq::{History, Reply};
 use std::sync::Wait;
 use std::thread;
 
-/// How a call is answered that this came of.
+/// Returns the reply to a call with this result.
 pub(crate) fn reply_to(made: Made) -> Reply
     ensures { result ≡ reply_of made }
 {
@@ -24,7 +24,7 @@ pub(crate) fn reply_to(made: Made) -> Reply
     }
 }
 
-/// The clients at these two places meet.
+/// Lets the clients at these two places meet.
 fn meet_two<N: Shape, R: Wait, G: Gate<N>>(
     rt: &R,
     tree: &Tree<N, G>,
@@ -40,7 +40,7 @@ fn meet_two<N: Shape, R: Wait, G: Gate<N>>(
     tree.meet(rt, &mut front[low], &mut back[0]);
 }
 
-/// The client at the place meets the last one, and so all of them.
+/// Lets the client at the place meet the last one, and so all of them.
 pub(crate) fn meet_all<N: Shape, R: Wait, G: Gate<N>>(
     rt: &R,
     tree: &Tree<N, G>,
@@ -60,7 +60,7 @@ pub(crate) fn meet_all<N: Shape, R: Wait, G: Gate<N>>(
     }
 }
 
-/// The history of the tree, which has no clients but these.
+/// Closes the tree and returns its history. It must have exactly these clients.
 pub(crate) fn close_all<N: Shape, R: Wait, G: Gate<N>>(
     rt: &R,
     tree: Tree<N, G>,

@@ -6,7 +6,7 @@ use ll_path::{Target, Word};
 use ll_seq::Call;
 use std::alloc::{AllocError, Global};
 
-// The same path, or the same word that spells none.
+// Returns a copy of the path argument.
 fn copied(alloc: Global, target: &Target) -> Result<Target, AllocError>
     ensures { IfOk result (λ copy. copy ≡ target.now) }
 {
@@ -48,7 +48,7 @@ pub fn copy_call(alloc: Global, call: &Call) -> Result<Call, AllocError>
     })
 }
 
-/// The same calls. Errors: memory ran out.
+/// Copies the calls. Errors: memory ran out.
 pub fn copy_calls(alloc: Global, calls: &[Call]) -> Result<Vec<Call>, AllocError>
     ensures { IfOk result (λ copies. copies.items ≡ calls.now) }
 {

@@ -8,7 +8,7 @@ ghost use Rattle.ll_wire.specs.Entries.{IsEntry};
 use ll_seq::{Entry, History};
 use ll_wire::{is_entered, is_spelled};
 
-/// Nothing happens. What a step and the types of an entry keep of it: it has a spelling.
+/// Does nothing when it runs. Its contract: an entry with these types, made by a step, has a spelling.
 pub(crate) fn is_entry(entry: &Entry)
     requires { (state : State) × ((outcome_of state entry.now).0 ≡ entry.now.reply) }
     ensures { IsEntry entry.now }
@@ -19,7 +19,7 @@ pub(crate) fn is_entry(entry: &Entry)
     is_entered(&entry.reply);
 }
 
-/// Nothing happens. Each entry of a legal history has a spelling.
+/// Does nothing when it runs. Its contract: each entry of a legal history has a spelling.
 pub fn are_entries(history: &History)
     requires { (empty : State) × IsLegal empty history.now.entries }
     ensures { All IsEntry history.now.entries }

@@ -1,4 +1,4 @@
-//! All clients of the streams that were served.
+//! Gathers all clients of the served streams.
 
 ghost use Rattle.std.specs.Prelude.{◌≡◌, ◌++◌, flat_map};
 
@@ -6,7 +6,7 @@ use crate::stream::Served;
 use ll_client::{Client, Shape};
 use std::sync::Wait;
 
-/// These clients come last in the list, which has room for as many as a tree may have: no more come.
+/// Appends `clients`. `all` must have room for as many as a tree may have.
 pub fn add_all<N: Shape, H: Wait>(rt: &H, all: &mut Vec<Client<N>>, clients: Vec<Client<N>>)
     ensures { all.new.items ≡ all.old.items ++ clients.items }
 {
@@ -17,7 +17,7 @@ pub fn add_all<N: Shape, H: Wait>(rt: &H, all: &mut Vec<Client<N>>, clients: Vec
     }
 }
 
-// So do those of the streams that one worker served.
+// Appends the clients of the streams that one worker served.
 fn add_room<N: Shape, H: Wait, R, W>(rt: &H, all: &mut Vec<Client<N>>, room: Vec<Served<N, R, W>>)
     ensures { all.new.items ≡ all.old.items ++ flat_map (λ it. it.clients.items) room.items }
 {
@@ -26,8 +26,8 @@ fn add_room<N: Shape, H: Wait, R, W>(rt: &H, all: &mut Vec<Client<N>>, room: Vec
     }
 }
 
-/// The clients of all streams that were served come last in the list, which has room for as many as a tree may have:
-/// worker by worker, and stream by stream.
+/// Appends the clients of all served streams, worker by worker and stream by stream. The list must have room for as
+/// many as a tree may have.
 pub fn gather<N: Shape, H: Wait, R, W>(
     rt: &H,
     all: &mut Vec<Client<N>>,

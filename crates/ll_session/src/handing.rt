@@ -1,11 +1,11 @@
-//! Streams, handed over.
+//! Hands streams over.
 
 ghost use Rattle.std.specs.Prelude.{◌≡◌, IfErr};
 
 use crossbeam_channel::Sender;
 use std::sync::Wait;
 
-/// Sends a stream to whoever serves it. It comes back where it can't be sent.
+/// Sends a stream to whoever serves it. Errors: the stream, if it can't be sent.
 pub fn hand_over<S: Drop, H: Wait>(rt: &H, sender: &Sender<S>, stream: S) -> Result<(), S>
     ensures { IfErr result (λ back. back ≡ stream) }
 {

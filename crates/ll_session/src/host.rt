@@ -7,7 +7,7 @@ use crate::{Gate, Keeps, Tree};
 use ll_client::Shape;
 use ll_seq::Call;
 
-/// A tree, how many entries its history may have, who keeps these, and the calls that each stream's client makes before
+/// A tree, the limit of its history's entries, who keeps these, and the calls that each stream's client makes before
 /// its lines.
 #[derive(Drop)]
 pub struct Host<'a, N: Shape, G: Gate<N>, K: Keeps> {

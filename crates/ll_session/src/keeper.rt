@@ -7,18 +7,18 @@ use crate::{Gate, Party, Tree};
 use ll_client::Shape;
 use std::sync::Wait;
 
-/// How far a history is kept.
+/// How much of a history is kept.
 #[derive(Clone, Copy, Drop)]
 pub enum Kept {
-    /// The first so many entries are.
+    /// This many entries from the start are kept.
     UpTo(usize),
-    /// Nobody keeps it, or not any more.
+    /// Nobody keeps it, or nobody does any longer.
     Nowhere,
 }
 
-/// Who keeps a tree's history while it grows.
+/// Keeps a tree's history while it grows.
 pub trait Keeps {
-    /// Keeps all entries that one of these clients knows of. How far the history is kept then.
+    /// Keeps all entries that any of these clients knows of. Returns how much of the history is kept then.
     fn keep<N: Shape, R: Wait, G: Gate<N>>(
         &self,
         rt: &R,
@@ -29,7 +29,7 @@ pub trait Keeps {
         ensures same { party.new ≡ party.old };
 }
 
-/// Nobody: the history of the tree alone has the entries.
+/// Keeps nothing: only the tree's history has the entries.
 #[derive(Clone, Copy, Drop)]
 pub struct NoKeeper;
 

@@ -12,17 +12,17 @@ use ll_rights::Errno;
 use ll_seq::{Call, Reply};
 use std::sync::Wait;
 
-/// What keeps a client from making all its calls.
+/// Why a client couldn't make all its calls.
 #[derive(Drop)]
 pub enum Refusal {
     /// Its connect is refused.
     AtConnect(Errno),
-    /// One of its calls is, by this reply.
+    /// One of its calls is refused or denied, with this reply.
     AtCall(Reply),
 }
 
 impl Refusal {
-    /// The reply of the connect or the call.
+    /// Returns the reply to the connect or the call.
     pub fn reply(self) -> Reply
         ensures { result ≡ reply_at self }
     {
@@ -36,9 +36,9 @@ impl Refusal {
 /// Why no session begins.
 #[derive(Drop)]
 pub enum Shut {
-    /// A connect or a profile's call gets this refusal, which is told.
+    /// A connect or a profile's call got this refusal, which is written.
     Refused(Reply),
-    /// A loader's call is refused.
+    /// A call of the loader is refused.
     Stopped,
 }
 
@@ -48,7 +48,7 @@ impl<N: Shape> Shared<N> {
     ghost use Rattle.ll_session.specs.Opening.{Comes, Loads, Opens, begun, fresh, made};
     ghost use Rattle.ll_session.specs.Progress.{coming_at, opening_at, without};
 
-    // The next client comes, and makes these calls.
+    // Adds the next client, which makes these calls.
     fn bring<R: Wait>(&mut self, rt: &R, calls: Vec<Call>) -> Result<(), Refusal>
         requires { AreOthers calls.items }
         ensures ok { OnOk result ((room : ℕ) → Leads N.rules room N.limit self.old.party self.new.party
@@ -72,7 +72,7 @@ impl<N: Shape> Shared<N> {
         }
     }
 
-    // The loader comes, if there is one, and makes its calls.
+    // Adds the loader, if there is one, which makes its calls.
     fn load<R: Wait>(&mut self, rt: &R, loader: Option<Vec<Call>>) -> Result<(), Refusal>
         requires { IfSome loader (λ calls. AreOthers calls.items) }
         ensures ok { OnOk result ((room : ℕ) → Leads N.rules room N.limit self.old.party self.new.party
@@ -87,8 +87,8 @@ impl<N: Shape> Shared<N> {
         }
     }
 
-    /// To a fresh tree the loader comes, if there is one, and then the first client of the session. How many clients
-    /// came before that.
+    /// Adds to a new tree the loader, if there is one, and then the first client of the session. Returns how many
+    /// clients came before that. Errors: why no session begins.
     pub fn open<R: Wait>(&mut self, rt: &R, setup: Setup) -> Result<u64, Shut>
         ensures ok { IfOk result (λ before. (room : ℕ) → Leads N.rules room N.limit self.old.party self.new.party
             (λ s t. s ≡ fresh setup → Opens setup (begun (without before t)))) }

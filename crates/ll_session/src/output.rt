@@ -17,7 +17,7 @@ use ll_seq::Reply;
 use ll_wire::{Ends, SessionFault, is_entered, line_text, reply_text, write_line};
 use std::alloc::{AllocError, Global};
 
-// The line of a refusal.
+// Returns the line of a refusal.
 fn refusal_line(alloc: Global, errno: Errno) -> Result<String, AllocError>
     ensures { IfOk result (λ line. string_bytes line ≡ reply_line (Reply.Refused errno)) }
 {
@@ -25,7 +25,7 @@ fn refusal_line(alloc: Global, errno: Errno) -> Result<String, AllocError>
     line_text(alloc, "refused", &[number.as_str(), errno.text()])
 }
 
-/// The line of a reply. Nothing is known of it but its type.
+/// Returns the line of a reply. Errors: memory ran out.
 pub fn reply_line(alloc: Global, reply: &Reply) -> Result<String, AllocError>
     ensures { IfOk result (λ line. string_bytes line ≡ reply_line reply.now) }
 {
@@ -39,7 +39,7 @@ pub fn reply_line(alloc: Global, reply: &Reply) -> Result<String, AllocError>
     }
 }
 
-/// Writes the line of a reply.
+/// Writes the line of a reply. Errors: the output failed, or memory ran out.
 pub fn write_reply<E: Ends>(alloc: Global, reply: &Reply, ends: &mut E) -> Result<(), SessionFault>
     requires { IsWhole (E.devices ends.old) }
     ensures ok { OnOk result (Appends (E.devices ends.old).contents (E.devices ends.new).contents
@@ -56,7 +56,8 @@ pub fn write_reply<E: Ends>(alloc: Global, reply: &Reply, ends: &mut E) -> Resul
     write_line(ends, line.as_str())
 }
 
-/// Writes the line of a reply to these clients. What they know of is kept.
+/// Writes the line of a reply to these clients, after everything that they know of was kept. Errors: the output failed,
+/// or memory ran out.
 pub fn tell_reply<N: Shape, E: Ends>(
     alloc: Global,
     reply: &Reply,

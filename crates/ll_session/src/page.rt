@@ -9,25 +9,26 @@ use ll_seq::Entry;
 use ll_wire::entry_text;
 use std::alloc::{AllocError, Global};
 
-/// At how many bytes or more a page is full.
+/// A page with this many bytes or more is full.
 const BLOCK: usize = 65_536;
 
-/// The lines of some entries of a history: from the first that isn't written yet to the one at which the page is full.
+/// The lines of some entries of a history: from the first that isn't written yet to the one with which the page is
+/// full.
 #[derive(Drop)]
 pub struct Page {
     pub alloc: Global,
     pub text: String,
-    /// How many entries came before the page.
+    /// The number of entries before the page.
     pub first: usize,
-    /// How many entries there are with those of the page.
+    /// The number of entries up to the page's end.
     pub next: usize,
-    /// How many entries the history had when it was read.
+    /// The number of the history's entries when it was read.
     pub total: usize,
-    /// Memory was wanted for a line.
+    /// Whether memory ran out for a line.
     pub is_starved: bool,
 }
 
-// The line of an entry comes after the text.
+// Appends the line of an entry to the text.
 fn push_entry(alloc: Global, entry: &Entry, text: &mut String) -> Result<(), AllocError>
     requires { IsEntry entry.now }
     ensures { OnOk result (string_bytes text.new ≡ string_bytes text.old ++ entry_line entry.now) }
@@ -42,7 +43,7 @@ impl Page {
     ghost use Rattle.ll_session.specs.Keeping.{Fills};
     ghost use Rattle.ll_session.specs.declared.page.Page.{Page};
 
-    /// An empty page, before the first entry.
+    /// Returns an empty page, before the first entry.
     pub fn new(alloc: Global) -> Page
         ensures { result.first ≡ 0 }
     {
@@ -56,7 +57,7 @@ impl Page {
         }
     }
 
-    // Nothing of a history with so many entries is on the page.
+    // Empties the page, for a history with this many entries.
     fn begin(&mut self, total: usize)
         ensures fills { (history : List Entry) → length history ≡ total → Fills self.old history self.new }
         ensures next { self.new.next ≡ self.new.first }
@@ -68,7 +69,7 @@ impl Page {
         self.is_starved = false;
     }
 
-    // Adds the line of the next entry, up to which there are so many then. Errors: no memory for it.
+    // Adds the line of the next entry, with which there are `next` entries. Errors: memory ran out.
     fn add(&mut self, entry: &Entry, next: usize) -> Result<(), AllocError>
         requires entry { IsEntry entry.now }
         requires next { next ≡ self.old.next + 1 }

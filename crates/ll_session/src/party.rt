@@ -1,4 +1,4 @@
-//! All clients of a shared tree, in one hand.
+//! All clients of a shared tree, with one owner.
 
 ghost use Rattle.std.specs.Prelude.{◌≡◌, ℕ, ◌+◌, ◌∷◌, ◌++◌, ◌<◌, ◌≤◌, ◌↔◌, [], IsTrue, List, None, IfErr, IfOk};
 ghost use Rattle.std.specs.Prelude.{OnErr, OnOk, false, length, map};
@@ -27,13 +27,13 @@ use std::alloc::{AllocError, Global};
 use std::marker::Model;
 use std::sync::Wait;
 
-/// All clients of one tree, in the order in which they came. They make their calls one after the other: each meets the
-/// others first, so that its entry stands after all of theirs.
+/// All clients of one tree, in the order in which they came. They make their calls one after the other. Each meets the
+/// others first, so its entry comes after all of theirs.
 #[derive(Drop)]
 pub struct Party<N: Shape> {
     clients: Vec<Client<N>>,
     limit: u64,
-    /// The place of a client that knows of all entries that one of them knows of.
+    /// The place of a client that knows of all entries that any of them knows of.
     last: usize,
     ghost limit_is: { limit ≡ N.limit },
 }
@@ -54,8 +54,8 @@ impl<N: Shape> Model for Party<N> {
 }
 
 impl<N: Shape> Party<N> {
-    /// Nobody has come yet. The tree's history may have so many entries. Room is reserved for all clients that may
-    /// come.
+    /// Returns a party without clients, for a tree whose history has this limit. Reserves room for all clients that may
+    /// come. Errors: memory ran out.
     pub fn new(alloc: Global, limit: u64) -> Result<Party<N>, AllocError>
         requires { limit ≡ N.limit }
         ensures { IfOk result (λ party. party ≡ []) }
@@ -68,14 +68,14 @@ impl<N: Shape> Party<N> {
         })
     }
 
-    /// How many clients have come.
+    /// Returns the number of clients.
     pub fn len(&self) -> u64
         ensures { result ≡ length self.now }
     {
         self.clients.len() as u64
     }
 
-    /// The last client knows of all entries made so far, if somebody is there.
+    /// Lets the last client, if there is one, know of all entries made so far.
     fn catch_up<R: Wait, G: Gate<N>>(&mut self, rt: &R, tree: &Tree<N, G>)
         ensures looks { Looks self.old self.new }
     {
@@ -84,7 +84,7 @@ impl<N: Shape> Party<N> {
         }
     }
 
-    /// Has the reader read the history as it is at one point, at which all entries are there that one of them knows of.
+    /// Lets the reader read the history as it is at one point, with every entry that any of the clients knows of.
     pub fn read_history<R: Wait, G: Gate<N>, V: ReadsHistory>(
         &mut self,
         rt: &R,
@@ -100,7 +100,7 @@ impl<N: Shape> Party<N> {
         tree.read_history(rt, &mut self.clients[self.last], reader);
     }
 
-    /// The number of the last entry that one of them knows of.
+    /// Returns the number of the last entry that any of them knows of.
     fn seen(&self) -> u64
         ensures { result ≡ seen_by self.now }
     {
@@ -110,7 +110,7 @@ impl<N: Shape> Party<N> {
         self.clients[self.last].seen()
     }
 
-    /// Whether the history is full, as one of the clients knows from now on.
+    /// Reports whether the history is full, which one of the clients then knows.
     pub fn is_full<R: Wait, G: Gate<N>>(&mut self, rt: &R, tree: &Tree<N, G>) -> bool
         ensures looks { Looks self.old self.new }
         ensures full { IsTrue result ↔ (N.limit ≤ seen_by self.new) }
@@ -120,7 +120,7 @@ impl<N: Shape> Party<N> {
         self.limit <= self.seen()
     }
 
-    /// A new client, whose entry stands after all that one of them knows of. It isn't one of them yet.
+    /// Creates a client, with an entry after all that any of them knows of. It isn't in the party yet.
     fn connect<R: Wait, G: Gate<N>>(
         &mut self,
         rt: &R,
@@ -139,8 +139,7 @@ impl<N: Shape> Party<N> {
         tree.connect_after(rt, &mut self.clients[self.last])
     }
 
-    /// A client that knows of all that one of them knows of comes last. There is room for as many as a tree may have;
-    /// no more come.
+    /// Appends a client that knows of all that any of them knows of. There is room for as many as a tree may have.
     pub fn add<R: Wait>(&mut self, rt: &R, client: Client<N>)
         requires { seen_by self.old ≤ client.rider.seen }
         ensures { self.new ≡ self.old ++ client.rider ∷ [] }
@@ -153,7 +152,7 @@ impl<N: Shape> Party<N> {
         self.clients.push_reserved(client);
     }
 
-    /// The next client comes. Errors: HistoryFull, EMFILE where a tree may have no more, NoMemory.
+    /// Adds the next client. Errors: HistoryFull; EMFILE if a tree may have no more; NoMemory.
     pub fn join<R: Wait, G: Gate<N>>(&mut self, rt: &R, tree: &Tree<N, G>) -> Result<(), Errno>
         ensures ok { OnOk result ((room : ℕ) → Leads N.rules room N.limit self.old self.new
             (λ s t. (mid : Session) × Connects s replies.Done mid × (joined s mid ≡ t))) }
@@ -182,7 +181,7 @@ impl<N: Shape> Party<N> {
         unreachable!()
     }
 
-    /// The client at this place meets the last one, and so all of them.
+    /// Lets the client at this place meet the last one, and so all of them.
     fn meet<R: Wait, G: Gate<N>>(&mut self, rt: &R, tree: &Tree<N, G>, place: usize)
         requires { place < length self.old }
         ensures { IsMet self.old place self.new }
@@ -190,7 +189,7 @@ impl<N: Shape> Party<N> {
         meet_all(rt, tree, &mut self.clients, self.last, place);
     }
 
-    /// A call that brings no client, of the client at this place, which has met all of them.
+    /// Makes a call of the client at this place, which has met all of them. The call creates no client.
     fn call<R: Wait, G: Gate<N>>(
         &mut self,
         rt: &R,
@@ -209,7 +208,7 @@ impl<N: Shape> Party<N> {
         reply_to(made)
     }
 
-    /// The client at this place spawns a child, which comes last.
+    /// Spawns a child of the client at this place. The child is the last client.
     fn spawn<R: Wait, G: Gate<N>>(&mut self, rt: &R, tree: &Tree<N, G>, place: usize) -> Reply
         requires place { place < length self.old }
         ensures { AsksFor N.limit self.old place calls.Spawn result self.new }
@@ -227,7 +226,8 @@ impl<N: Shape> Party<N> {
         }
     }
 
-    /// The call of the client at this place, from 0 on. A client that it spawns comes last.
+    /// Makes the call of the client at this place, counted from 0. A client that it spawns is the last one. Returns the
+    /// reply.
     pub fn ask<R: Wait, G: Gate<N>>(
         &mut self,
         rt: &R,
@@ -247,7 +247,7 @@ impl<N: Shape> Party<N> {
         }
     }
 
-    /// The clients, in the order in which they came.
+    /// Returns the clients, in the order in which they came.
     pub fn into_clients(self) -> Vec<Client<N>>
         ensures { map (λ c. c.rider) result.items ≡ self }
     {
@@ -255,7 +255,7 @@ impl<N: Shape> Party<N> {
         clients
     }
 
-    /// The history of the tree, which has no clients but these.
+    /// Closes the tree and returns its history. The tree must have exactly these clients.
     pub fn close<R: Wait, G: Gate<N>>(self, rt: &R, tree: Tree<N, G>) -> History
         ensures closed { (nodes : ℕ) → N.slots ≡ nodes + TREE_CLIENTS
             → IsClosed N.rules nodes N.limit result.entries self }

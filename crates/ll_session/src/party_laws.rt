@@ -3,22 +3,22 @@
 ghost use Rattle.ll_session.specs.Laws.{CallsAreSteps, ConnectsAreSteps, ConnectsMayFail, LooksChangeNothing};
 ghost use Rattle.ll_session.specs.Laws.{PointsAreLegal, SpawnsAreSteps};
 
-/// A client's call that brings nobody is answered as the plain tree answers it at that point of the session.
+/// A client's call that creates no client gets the plain tree's reply at that point of the session.
 pub fn calls_are_steps()
     ensures { CallsAreSteps }
 {}
 
-/// A spawn that brings a child is the plain tree's, and the child is the next client.
+/// A spawn with a child is the plain tree's, and the child is the next client.
 pub fn spawns_are_steps()
     ensures { SpawnsAreSteps }
 {}
 
-/// A connect that brings a client is the plain tree's, and it is the next client.
+/// A successful connect is the plain tree's, and creates the next client.
 pub fn connects_are_steps()
     ensures { ConnectsAreSteps }
 {}
 
-/// That a client knows of all entries made so far changes nothing of the session.
+/// If a client learns of all entries made so far, the session stays the same.
 pub fn looks_change_nothing()
     ensures { LooksChangeNothing }
 {}
@@ -28,7 +28,7 @@ pub fn connects_may_fail()
     ensures { ConnectsMayFail }
 {}
 
-/// At each point the session's entries are a legal history that leads to its tree, and at the end they are all.
+/// At each point the session's entries are a legal history that leads to its tree. At the end they are all entries.
 pub fn points_are_legal()
     ensures { PointsAreLegal }
 {}

@@ -97,7 +97,7 @@ fn run_session<N: Shape, R: Wait, K: Keeps, E: Ends>(
     }
 }
 
-// Writes the line of the refusal that no session begins with, and closes the tree. Its history is left.
+// Writes the line of the refusal that keeps a session from beginning, and closes the tree. Returns its history.
 fn tell_refusal<N: Shape, R: Wait, K: Keeps, E: Ends>(
     rt: &R,
     alloc: Global,
@@ -128,7 +128,7 @@ fn tell_refusal<N: Shape, R: Wait, K: Keeps, E: Ends>(
     Ok(history)
 }
 
-// What ends a run whose opening gets this refusal, where it is strict.
+// Returns what ends a run whose opening got this refusal, if it is strict.
 fn at_opening(is_strict: bool, reply: Reply) -> Option<Stop>
     ensures { result ≡ cond is_strict (Some (Stop.AtOpening reply)) None }
 {
@@ -139,7 +139,7 @@ fn at_opening(is_strict: bool, reply: Reply) -> Option<Stop>
     None
 }
 
-// The same as `run_over`, over a tree that this blank is of.
+// Does what `run_over` does, on a tree with this blank.
 fn run_in<N: Shape, R: Wait, K: Keeps, E: Ends>(
     rt: &R,
     alloc: Global,
@@ -187,11 +187,11 @@ fn run_in<N: Shape, R: Wait, K: Keeps, E: Ends>(
     }
 }
 
-/// Runs a script in this manner over two devices, which count their calls and failures. Before each read, the replies
-/// to all lines that were read are written, and before that the keeper keeps their entries; a device that failed isn't
-/// called again. A strict run ends at the first line that is answered BadLine, HistoryFull or NoMemory, or by which a
-/// layer or a client that has layers is asked for and refused: its reply is written, and no line is called after it,
-/// even if it was read with it.
+/// Runs a script in this manner, over two devices that count their calls and failures. Before each read, the keeper
+/// keeps the entries of all lines read so far, and then their replies are written. A device that failed isn't called
+/// again. A strict run ends at the first line that is answered BadLine, HistoryFull or NoMemory, or whose ruleset,
+/// allow, confine or spawn is refused or denied. That reply is written, and no later line is called, even if one read
+/// returned both. Errors: the first fault.
 pub fn run_over<R: Wait, K: Keeps, E: Ends>(
     rt: &R,
     alloc: Global,
@@ -208,14 +208,14 @@ pub fn run_over<R: Wait, K: Keeps, E: Ends>(
     ensures lax { IfOk result (λ run. manner.now.is_strict ≡ false → run.stop ≡ None) }
     ensures legal { IfOk result (λ run. IsLegal (start setup.rules setup.nodes) run.history.entries) }
     ensures entries { IfOk result (λ run. All IsEntry run.history.entries) }
-    // With a fault, what was written is a beginning of the transcript of some first pieces, or of a refusal.
+    // After a fault, what was written is a prefix of the transcript of some first pieces, or of a refusal.
     ensures beginning { IfErr result (λ fault. IfSome (E.devices ends.old).remaining (λ input.
         Writes (E.devices ends.old).contents (E.devices ends.new).contents
         (BeginsBy manner.now.is_strict setup fault input))) }
-    // A device is blamed only where it failed in this call, and neither is where memory is wanted.
+    // A fault names a device only if it failed in this call, and none if memory ran out.
     ensures fault { IfErr result (λ fault. EndsBy setup fault (E.devices ends.old) (E.devices ends.new)) }
     ensures may { IfErr result (λ fault. MayEnd setup fault) }
-    // Each read gives a byte at least.
+    // Each read returns at least one byte.
     ensures long { result ≡ Err (RunFault.Session SessionFault.TooLong)
         → (input : List ℕ) → (E.devices ends.old).remaining ≡ Some input → most_reads ≤ length input }
     ensures same { E.names ends.new ≡ E.names ends.old }
@@ -226,9 +226,9 @@ pub fn run_over<R: Wait, K: Keeps, E: Ends>(
     }
 }
 
-/// Reads a script of command lines, and writes the reply lines. The history of the run is left, with an entry for each
-/// call that the tree has answered. Where the opening is refused, that reply's line is all that it writes, and it reads
-/// nothing.
+/// Runs a script of command lines, and writes the reply lines. Returns the history, which has an entry for each call
+/// that the tree answered. If the opening is refused, that reply's line is all that it writes, and it reads nothing.
+/// Errors: the first fault.
 pub fn run_script<H: Wait, R: Read, W: Write>(
     rt: &H,
     alloc: Global,
@@ -236,21 +236,20 @@ pub fn run_script<H: Wait, R: Read, W: Write>(
     reader: &mut R,
     writer: &mut W,
 ) -> Result<History, RunFault>
-    // Where no fault is answered: what was read, what is left of the input, what was written, and the entries, are
-    // those of a run.
+    // Without a fault, what was read, what is left of the input, what was written, and the entries are those of a run.
     ensures transcript { IfOk result (λ history. IfSome (R.remaining reader.old) (λ input. (left : List ℕ)
         × (R.remaining reader.new ≡ Some left)
         × Writes (W.contents writer.old) (W.contents writer.new)
         (λ text. Runs setup input left text history.entries))) }
-    // Whatever the reader and the writer tell: the entries are a legal history of the setup's tree, and each has a
+    // Whatever the reader and the writer report: the entries are a legal history of the setup's tree, and each has a
     // spelling.
     ensures legal { IfOk result (λ history. IsLegal (start setup.rules setup.nodes) history.entries) }
     ensures entries { IfOk result (λ history. All IsEntry history.entries) }
-    // With a fault, what was written is a beginning of such a text.
+    // After a fault, what was written is a prefix of such a text.
     ensures beginning { OnErr result (IfSome (R.remaining reader.old) (λ input.
         Writes (W.contents writer.old) (W.contents writer.new) (Begins setup input))) }
     ensures fault { IfErr result (λ fault. MayEnd setup fault) }
-    // Each read gives a byte at least.
+    // Each read returns at least one byte.
     ensures long { result ≡ Err (RunFault.Session SessionFault.TooLong)
         → (input : List ℕ) → R.remaining reader.old ≡ Some input → most_reads ≤ length input }
 {

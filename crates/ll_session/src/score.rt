@@ -1,4 +1,4 @@
-//! How far a session has come.
+//! How far a session is.
 
 ghost use Rattle.std.specs.Prelude.{◌≡◌, ◌<◌, ◌^◌};
 
@@ -6,7 +6,7 @@ use crate::stop::Stop;
 use crate::tally::Tally;
 use ll_seq::Reply;
 
-/// Whether a session is strict, what it has counted, and the reply that has ended it, if one has.
+/// Whether a session is strict, what it has counted, and the reply that ended it, if any.
 #[derive(Drop)]
 pub struct Score {
     pub is_strict: bool,
@@ -17,7 +17,7 @@ pub struct Score {
 impl Score {
     ghost use Rattle.ll_session.specs.Counts.{first_score, noted, stop_of};
 
-    /// The score of a session that has answered nothing.
+    /// Returns the score of a session that has answered nothing.
     pub fn new(is_strict: bool) -> Score
         ensures { result ≡ first_score is_strict }
     {
@@ -28,7 +28,7 @@ impl Score {
         }
     }
 
-    /// Counts a line that was answered by this reply, which may be one that ends a strict session.
+    /// Counts a line that got this reply. With `is_end`, the reply ends a strict session.
     pub fn note(&mut self, reply: Reply, is_end: bool)
         requires lines { self.old.tally.lines < 2 ^ 63 }
         requires denials { self.old.tally.denials < 2 ^ 63 }
@@ -42,7 +42,7 @@ impl Score {
         }
     }
 
-    /// What has ended the session before its input, if anything has.
+    /// Returns what ended the session before its input, if anything did.
     pub fn into_stop(self) -> Option<Stop>
         ensures { result ≡ stop_of self }
     {

@@ -20,7 +20,7 @@ use ll_wire::{Answers, Ends, Line, SessionFault, answer_lines};
 use std::alloc::AllocError;
 use std::sync::Wait;
 
-/// A session under way, and how far it has come.
+/// A session under way, and how far it is.
 #[derive(Drop)]
 struct ScoredSession<'a, N: Shape, R: Wait, G: Gate<N>, K: Keeps> {
     session: OpenSession<'a, N, R, G, K>,
@@ -44,7 +44,7 @@ impl<'a, N: Shape, R: Wait, G: Gate<N>, K: Keeps> Answers for ScoredSession<'a, 
 
     ghost over = { λ scored. is_some scored.score.end };
 
-    // All entries that its clients know of are kept, as far as anybody keeps them.
+    // All entries that its clients know of are kept, unless nobody keeps them.
     ghost kept = { λ scored. AreKept scored.session.kept scored.session.party };
 
     fn answer(&mut self, line: &Line) -> Result<String, AllocError> {
@@ -69,11 +69,11 @@ impl<'a, N: Shape, R: Wait, G: Gate<N>, K: Keeps> Answers for ScoredSession<'a, 
         a.session.party b.session.party c.session.party a.score b.score c.score };
 }
 
-/// Answers each line that is read, beside whatever others call on the tree; where it is strict, up to the first whose
-/// reply ends it: no line is called after that one, even if it was read with it. The first so many clients of the party
-/// came before the session, and no line names them; those that the session spawns come last. Before each read, the
-/// replies to all lines that were read are written, and before that the entries are kept of which its clients know.
-/// With a fault, calls that the tree has answered stand.
+/// Answers each line that is read, while others call on the tree. A strict session ends at the first line whose reply
+/// ends it: no later line is called, even if one read returned both. The party's clients at the beginning came before
+/// the session, and no line names them; those that the session spawns are added at the end. Before each read, the
+/// entries that its clients know of are kept, and then the replies to all lines read so far are written. After a fault,
+/// the calls that the tree has answered stay made.
 pub fn session<N: Shape, R: Wait, G: Gate<N>, K: Keeps, E: Ends>(
     session: OpenSession<'_, N, R, G, K>,
     is_strict: bool,
@@ -82,17 +82,17 @@ pub fn session<N: Shape, R: Wait, G: Gate<N>, K: Keeps, E: Ends>(
     requires whole { IsWhole (E.devices ends.old) }
     requires answered { (E.devices ends.old).owed ≡ 0 }
     requires reads { (E.devices ends.old).reads ≤ 2 ^ 62 }
-    // Without a fault all was read, or what a reply has ended, and the transcript of it written.
+    // Without a fault, everything was read, or as much as a reply has ended, and its transcript was written.
     ensures ok { OnOk result.2 (ScoresTo (AnswersBeside N.limit session.entry.before)
         (session.entry.party, first_score is_strict) (result.0, result.1) (E.devices ends.old) (E.devices ends.new)) }
-    // With one, a beginning of the transcript of some first pieces, whose calls were made.
+    // After a fault, a prefix of the transcript of some first pieces was written, and their calls were made.
     ensures err { OnErr result.2 (StartsAll (Scores (AnswersBeside N.limit session.entry.before))
         (session.entry.party, first_score is_strict) (result.0, result.1) (E.devices ends.old) (E.devices ends.new)) }
-    // Whatever the devices tell: its clients have made calls, and looked how long the history is.
+    // Whatever the devices report: its clients have made calls, and looked at the history's length.
     ensures goes { Goes N.limit session.entry.party result.0 }
     ensures lax { is_strict ≡ false → result.1.end ≡ None }
     ensures fault { IfErr result.2 (λ fault. Blames fault (E.devices ends.old) (E.devices ends.new)) }
-    // Each read gives a byte at least.
+    // Each read returns at least one byte.
     ensures long { result.2 ≡ Err SessionFault.TooLong
         → (input : List ℕ) → (E.devices ends.old).remaining ≡ Some input → most_reads ≤ length input }
     ensures same { E.names ends.new ≡ E.names ends.old }

@@ -1,4 +1,4 @@
-//! What a run starts with.
+//! What a run begins with.
 
 ghost use Rattle.std.specs.Prelude.{◌≤◌, IfSome};
 ghost use Rattle.std.proofs.Props.{props};
@@ -7,9 +7,9 @@ ghost use Rattle.ll_session.specs.Session.{AreOthers};
 
 use ll_seq::{Call, Rules};
 
-/// The rules of the tree; how many nodes may live in it, the root among them; how many entries its history may have,
-/// the connects among them; the calls of a loader that comes first, if there is one; and those that the session's first
-/// client makes before its lines.
+/// The rules of the tree; the limit of live nodes (the root counts); the limit of the history's entries (connects
+/// count); the calls of a loader that comes first, if there is one; and the calls that the session's first client makes
+/// before its lines.
 #[derive(Drop)]
 pub struct Setup {
     pub rules: Rules,

@@ -12,7 +12,7 @@ use ll_seq::History;
 use std::alloc::Global;
 use std::sync::Wait;
 
-/// A tree that threads share, and all its clients. Their numbers are those from 1 on, in the order in which they came.
+/// A tree that threads share, and all its clients. They are numbered from 1, in the order in which they came.
 #[derive(Drop)]
 pub struct Shared<N: Shape> {
     pub tree: Tree<N, NoGate>,
@@ -24,7 +24,7 @@ impl<N: Shape> Shared<N> {
     ghost use Rattle.ll_client.specs.Closed.{IsClosed};
     ghost use Rattle.ll_wire.specs.Entries.{IsEntry};
 
-    /// A fresh tree, to which nobody has come yet. None where memory is wanted.
+    /// Returns a new tree without clients. None if memory runs out.
     pub fn new(alloc: Global, blank: Blank<Account>, setup: &Setup) -> Option<Shared<N>>
         requires named { blank ≡ N.table }
         requires slots { N.slots ≡ setup.now.nodes + TREE_CLIENTS }
@@ -45,14 +45,14 @@ impl<N: Shape> Shared<N> {
         Some(Shared { tree, party })
     }
 
-    /// How many clients have come.
+    /// Returns the number of clients.
     pub fn len(&self) -> u64
         ensures { result ≡ length self.now.party }
     {
         self.party.len()
     }
 
-    /// The history of the tree, of which each entry has a spelling.
+    /// Returns the history of the tree. Each entry has a spelling.
     pub fn close<R: Wait>(self, rt: &R) -> History
         ensures closed { (nodes : ℕ) → N.slots ≡ nodes + TREE_CLIENTS
             → IsClosed N.rules nodes N.limit result.entries self.party }
@@ -64,7 +64,7 @@ impl<N: Shape> Shared<N> {
         history
     }
 
-    /// The same, once the keeper has kept it.
+    /// Returns the history of the tree after the keeper has kept it.
     pub fn close_kept<R: Wait, K: Keeps>(self, rt: &R, keeper: &K) -> History
         ensures closed { (nodes : ℕ) → N.slots ≡ nodes + TREE_CLIENTS
             → IsClosed N.rules nodes N.limit result.entries self.party }

@@ -5,13 +5,13 @@ use ll_seq::{History, Reply};
 /// What ends a strict run before its input does.
 #[derive(Drop)]
 pub enum Stop {
-    /// A connect of the opening gets this refusal, or a call of the profile.
+    /// A connect of the opening, or a call of the profile, got this refusal.
     AtOpening(Reply),
-    /// This line, of which the first is 1, gets this reply.
+    /// The line with this number, counted from 1, got this reply.
     AtLine(u64, Reply),
 }
 
-/// A run that no fault ended: its history, and what has ended it before its input, which only a strict one may be.
+/// A run without a fault: its history, and what ended it before its input, which only a strict run has.
 #[derive(Drop)]
 pub struct Run {
     pub history: History,

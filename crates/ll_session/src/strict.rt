@@ -6,7 +6,7 @@ ghost use Rattle.ll_session.specs.Strict.{ends_strictly, is_of_layers};
 use ll_rights::Errno;
 use ll_seq::{Call, Reply};
 
-/// Whether layers are made by the call, or a client that has them.
+/// Reports whether the call sets up layers, or creates a client that has them.
 pub fn is_of_layers(call: &Call) -> bool
     ensures { result ≡ is_of_layers call.now }
 {
@@ -16,7 +16,7 @@ pub fn is_of_layers(call: &Call) -> bool
     )
 }
 
-/// Whether this reply ends a strict session, to a call of layers or to another one.
+/// Reports whether this reply ends a strict session, for a call that sets up layers or for another one.
 pub fn ends_strictly(of_layers: bool, reply: &Reply) -> bool
     ensures { result ≡ ends_strictly of_layers reply.now }
 {

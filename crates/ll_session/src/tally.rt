@@ -5,14 +5,14 @@ ghost use Rattle.ll_session.specs.Counts.{counted, denied};
 
 use ll_seq::Reply;
 
-/// How many lines were answered, and how many of these replies tell of a denial.
+/// The number of answered lines, and the number of denials among the replies.
 #[derive(Clone, Copy, Debug, PartialEq, Eq)]
 pub struct Tally {
     pub lines: u64,
     pub denials: u64,
 }
 
-// How much this reply adds to the denials.
+// Returns how much this reply adds to the denials.
 fn denied(reply: &Reply) -> u64
     ensures { result ≡ denied reply.now }
 {
@@ -25,7 +25,7 @@ fn denied(reply: &Reply) -> u64
 impl Tally {
     ghost use Rattle.ll_session.specs.Counts.{nothing};
 
-    /// No line was answered.
+    /// Returns a tally without lines.
     pub fn nothing() -> Tally
         ensures { result ≡ nothing }
     {
@@ -35,7 +35,7 @@ impl Tally {
         }
     }
 
-    /// Counts a line that was answered by this reply.
+    /// Counts a line that got this reply.
     pub fn count(&mut self, reply: &Reply)
         requires lines { self.old.lines < 2 ^ 63 }
         requires denials { self.old.denials < 2 ^ 63 }

@@ -29,7 +29,7 @@ use std::io::{Read, Write};
 use std::snapshot::Snapshot;
 use std::sync::Wait;
 
-// A client comes. Why it doesn't, where it is refused.
+// Adds a client. Errors: the refusal.
 fn come<N: Shape, H: Wait, G: Gate<N>>(
     rt: &H,
     tree: &Tree<N, G>,
@@ -49,7 +49,8 @@ fn come<N: Shape, H: Wait, G: Gate<N>>(
     }
 }
 
-// Writes the line of the refusal that no session begins with, once the entries are kept of which its clients know.
+// Writes the line of the refusal that keeps a session from beginning, after everything that its clients know of was
+// kept.
 fn turn_away<N: Shape, H: Wait, G: Gate<N>, K: Keeps, E: Ends>(
     rt: &H,
     alloc: Global,
@@ -78,7 +79,7 @@ fn turn_away<N: Shape, H: Wait, G: Gate<N>, K: Keeps, E: Ends>(
     (party.into_clients(), Outcome { tally, ended }, Some(reply))
 }
 
-// The outcome of a session that has come so far.
+// Returns the outcome of a session that ended at this point.
 fn answered(score: Score, ended: Result<(), SessionFault>) -> Outcome
     ensures { result ≡ record { tally = score.tally; ended = ended } }
 {
@@ -87,9 +88,9 @@ fn answered(score: Score, ended: Result<(), SessionFault>) -> Outcome
     Outcome { tally, ended }
 }
 
-/// Serves one stream: a client comes, makes the calls of its profile, and answers each line that is read, beside
-/// whatever others call on the tree. Where its connect is refused, or one of those calls, the reply's line is all that
-/// is written, and nothing is read. Gives the clients that have come: this one, and those that it has spawned.
+/// Serves one stream: a client comes, makes the calls of its profile, and answers each line that is read, while others
+/// call on the same tree. If its connect or one of those calls is refused, that reply's line is all that is written,
+/// and nothing is read. Returns the clients that came: this one, and those that it spawned.
 pub fn visit<N: Shape, H: Wait, G: Gate<N>, K: Keeps, E: Ends>(
     rt: &H,
     alloc: Global,
@@ -101,15 +102,15 @@ pub fn visit<N: Shape, H: Wait, G: Gate<N>, K: Keeps, E: Ends>(
     requires whole { IsWhole (E.devices ends.old) }
     requires answered { (E.devices ends.old).owed ≡ 0 }
     requires reads { (E.devices ends.old).reads ≤ 2 ^ 62 }
-    // Without a fault all was read, and the transcript of it was written; or the client was refused, and the refusal
+    // Without a fault, everything was read, and its transcript was written; or the client was refused, and the refusal
     // was written.
     ensures ok { OnOk result.1.ended (Visits N.limit profile.items (E.devices ends.old) (E.devices ends.new)
         result.2 result.1.tally (map (λ c. c.rider) result.0.items)) }
-    // With one, a beginning of that, and the calls were made that were told.
+    // After a fault, a prefix of that was written, and the calls with these replies were made.
     ensures err { IfErr result.1.ended (λ fault. StartsBy N.limit profile.items fault (E.devices ends.old)
         (E.devices ends.new) result.2 result.1.tally (map (λ c. c.rider) result.0.items)) }
     ensures fault { IfErr result.1.ended (λ fault. Blames fault (E.devices ends.old) (E.devices ends.new)) }
-    // Each read gives a byte at least.
+    // Each read returns at least one byte.
     ensures long { result.1.ended ≡ Err SessionFault.TooLong
         → (input : List ℕ) → (E.devices ends.old).remaining ≡ Some input → most_reads ≤ length input }
     ensures same { E.names ends.new ≡ E.names ends.old }
@@ -142,7 +143,7 @@ pub fn visit<N: Shape, H: Wait, G: Gate<N>, K: Keeps, E: Ends>(
     }
 }
 
-// Serves one stream by these rules, and gives its clients and how it ended.
+// Serves one stream of this host. Returns its clients and how it ended.
 fn serve_ends<N: Shape, G: Gate<N>, K: Keeps, H: Wait, R: Read, W: Write>(
     rt: &H,
     alloc: Global,
@@ -169,7 +170,8 @@ fn serve_ends<N: Shape, G: Gate<N>, K: Keeps, H: Wait, R: Read, W: Write>(
     visit(rt, alloc, host, profile, &mut ends)
 }
 
-/// Serves one stream as `visit` does. What is left of it, and the reply by which its client was turned away, if it was.
+/// Serves one stream as `visit` does. Returns what is left of it, and the reply with which its client was turned away,
+/// if it was.
 pub fn serve_stream<N: Shape, G: Gate<N>, K: Keeps, H: Wait, R: Read, W: Write>(
     rt: &H,
     alloc: Global,

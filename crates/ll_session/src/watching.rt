@@ -1,15 +1,16 @@
-//! Who is told of streams.
+//! Who is notified of streams.
 
 use crate::stream::{Served, Stream};
 use ll_client::Shape;
 use ll_seq::Reply;
 
-/// Who is told of streams as they come and go.
+/// Is notified of streams as they come and go.
 pub trait Watches<R, W> {
-    /// The stream's turn has come.
+    /// The stream is about to be served.
     fn came(&self, stream: &Stream<R, W>);
 
-    /// It was served, and this is left of it. Its client was turned away by this reply, if it was.
+    /// The stream was served, and this is left of it. `refusal` is the reply with which its client was turned away, if
+    /// it was.
     fn went<N: Shape>(
         &self,
         stream: &Stream<R, W>,
@@ -18,7 +19,7 @@ pub trait Watches<R, W> {
     );
 }
 
-/// Nobody.
+/// Ignores all streams.
 #[derive(Clone, Copy, Drop)]
 pub struct Nobody;
 

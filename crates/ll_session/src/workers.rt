@@ -19,18 +19,18 @@ use std::thread::{self, Threads};
 
 /// Where workers take streams from.
 pub(crate) trait Takes<R, W> {
-    /// The next stream, once it has come. None where no more come.
+    /// Waits for the next stream. None if no more come.
     fn take<H: Wait>(&self, rt: &H) -> Option<Stream<R, W>>;
 }
 
-// Those that are sent, until the channel is closed.
+// Takes the streams that are sent, until the channel is closed.
 impl<R: Drop, W: Drop> Takes<R, W> for Receiver<Stream<R, W>> {
     fn take<H: Wait>(&self, rt: &H) -> Option<Stream<R, W>> {
         self.recv(rt).ok()
     }
 }
 
-// Room for what is left of so many streams, for each worker.
+// Reserves room for what is left of the streams, for each worker.
 fn rooms<N: Shape, R, W>(
     alloc: Global,
     workers: usize,
@@ -50,7 +50,7 @@ fn rooms<N: Shape, R, W>(
     Ok(rooms)
 }
 
-// Serves streams until no more come, or so many were served. What is left of each comes into the room.
+// Serves streams until no more come, or the limit is reached. Adds what is left of each to the room.
 fn work<
     N: Shape,
     G: Gate<N>,
@@ -85,8 +85,8 @@ fn work<
     }
 }
 
-/// Threads take streams from where they come, each at most so many, and serve each by `serve_stream`. Where some of the
-/// threads can't be started the others serve.
+/// Serves streams with several threads, each up to a limit, by `serve_stream`. If some of the threads can't be started,
+/// the others serve.
 pub(crate) fn serve_from<
     N: Shape + Send + Sync,
     G: Gate<N> + Sync,
@@ -108,7 +108,7 @@ pub(crate) fn serve_from<
     requires { 0 < workers }
     ensures workers { IfOk result (λ rooms. length rooms.items ≡ workers) }
     ensures most { IfOk result (λ rooms. All (λ room. length room.items ≤ most) rooms.items) }
-    // Each of these streams was served as `serve_stream` says of one.
+    // Each of these streams was served as `serve_stream` promises.
     ensures served { IfOk result (λ rooms. All (λ room. All (λ it. WasServed N.limit host.now.profile.now
         R.remaining W.contents it.outcome it.came.value it.went.value (map (λ c. c.rider) it.clients.items))
         room.items) rooms.items) }
@@ -128,9 +128,9 @@ pub(crate) fn serve_from<
     Ok(all)
 }
 
-/// Threads take streams from the channel until it is closed, each at most so many, and serve each by `serve_stream`.
-/// Where some of the threads can't be started the others serve. What is left of each stream, worker by worker, as each
-/// took them. Errors: there is no memory for a list of that; no stream is taken then.
+/// Serves the streams of the channel with several threads, until it is closed, each up to a limit, by `serve_stream`.
+/// If some of the threads can't be started, the others serve. Returns what is left of each stream, worker by worker, in
+/// the order in which each took them. Errors: memory for that list ran out; no stream is taken then.
 pub fn serve_streams<
     N: Shape + Send + Sync,
     G: Gate<N> + Sync,
@@ -151,7 +151,7 @@ pub fn serve_streams<
     requires { 0 < workers }
     ensures workers { IfOk result (λ rooms. length rooms.items ≡ workers) }
     ensures most { IfOk result (λ rooms. All (λ room. length room.items ≤ most) rooms.items) }
-    // Each of these streams was served as `serve_stream` says of one.
+    // Each of these streams was served as `serve_stream` promises.
     ensures served { IfOk result (λ rooms. All (λ room. All (λ it. WasServed N.limit host.now.profile.now
         R.remaining W.contents it.outcome it.came.value it.went.value (map (λ c. c.rider) it.clients.items))
         room.items) rooms.items) }
