@@ -125,7 +125,7 @@ module _ (s : State) (path : Path) (spot : Spot) (there : IsThere s path spot) w
 
 -- ---- the paths of a call
 
-few_targets : (call : Call) → drop 2 (targets call) ≡ []
+pub few_targets : (call : Call) → drop 2 (targets call) ≡ []
 few_targets (Make kind t) = refl
 few_targets (Open mode t) = refl
 few_targets (Read fd offset count) = refl

@@ -44,6 +44,7 @@ pub mod FileSteps
 pub mod LastSpots
 pub mod StopsAtLast
 pub mod StandingWalks
+pub mod Markers
 pub mod EndSlots
 pub mod Committed
 pub mod AtAnswers

@@ -1,6 +1,7 @@
 pub mod Book
 pub mod Steps
 pub mod Stations
+pub mod Positions
 pub mod Direct
 pub mod Own
 pub mod SeatCodes

@@ -1,6 +1,6 @@
 //! What a commit does to all clients' walks.
 
-ghost use Rattle.std.specs.Prelude.{◌≡◌, map, option_map};
+ghost use Rattle.std.specs.Prelude.{◌≡◌, ℕ, true, false, map, option_map, IfNone, IfSome};
 ghost use Rattle.ll_laws.specs.World as world;
 ghost use Rattle.ll_journal.specs.Book as book;
 ghost use Rattle.ll_journal.specs.Kept.{walks_from};
@@ -28,6 +28,21 @@ pub(crate) fn is_marked_by_other(seats: &[Seat], client: u64, inode: u64) -> boo
         }
     }
     false
+}
+
+/// The client whose walk has marked the directory.
+pub(crate) fn marker(seats: &[Seat], inode: u64) -> Option<u64>
+    ensures some { IfSome result (λ client. (w : world.World) → w.walks ≡ walks_from 1 seats.now
+        → book.has_mark w inode client ≡ true) }
+    ensures none { IfNone result ((w : world.World) → w.walks ≡ walks_from 1 seats.now → (client : ℕ)
+        → book.has_mark w inode client ≡ false) }
+{
+    for (place, seat) in seats.iter().enumerate() {
+        if seat.stands_in(inode) {
+            return Some(place as u64 + 1);
+        }
+    }
+    None
 }
 
 /// The holder of the gate after the client's walk has ended.

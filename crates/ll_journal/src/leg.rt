@@ -1,12 +1,13 @@
 //! A leg of a walk.
 
-ghost use Rattle.std.specs.Prelude.{◌≡◌, ◌+◌, ◌<◌, ◌≤◌, length, slice_get, [], ◌∷◌, ◌++◌, IfOk, IsSome};
+ghost use Rattle.std.specs.Prelude.{◌≡◌, ◌+◌, ◌-◌, ◌<◌, ◌≤◌, length, slice_get, [], ◌∷◌, ◌++◌, IfOk, IsSome};
 ghost use Rattle.ll_decide.specs.Masks.{AreMasks};
 ghost use Rattle.ll_path.specs.Place.{IsPlace};
 ghost use Rattle.ll_rights.specs.declared.limits.TheConstants.{PATH_NAMES};
 ghost use Rattle.ll_seq.specs.State.{root};
 ghost use Rattle.ll_journal.specs.Seated.{none_left};
 
+use crate::position::Stand;
 use crate::way::place_after;
 use ll_decide::Masks;
 use ll_path::{Path, Place};
@@ -125,6 +126,20 @@ impl Leg {
         ensures { result ≡ last_of self.now.chain.items }
     {
         self.chain[self.chain.len() - 1]
+    }
+
+    /// Where the leg is.
+    pub(crate) fn stand(&self) -> Stand
+        requires { 0 < length self.now.chain.items }
+        ensures { result ≡ record {
+          inode = last_of self.now.chain.items;
+          depth = length self.now.chain.items - 1;
+        } }
+    {
+        Stand {
+            inode: self.here(),
+            depth: self.chain.len() - 1,
+        }
     }
 }
 

@@ -162,6 +162,22 @@ impl Seat {
         self.client.child(alloc, rules)
     }
 
+    pub(crate) fn client(&self) -> &ClientRecord
+        ensures { result.now ≡ self.now.client }
+    {
+        &self.client
+    }
+
+    /// How often the walk has started, 0 if none is under way.
+    pub(crate) fn starts(&self) -> u64
+        ensures { result ≡ option_map_or (λ (walk : walks.Walk). walk.starts) self.now.walk 0 }
+    {
+        if self.call.is_none() {
+            return 0;
+        }
+        self.starts
+    }
+
     pub(crate) fn descriptors(&self) -> &NumberMap<Descriptor>
         ensures { result.now ≡ self.now.client.descriptors }
     {

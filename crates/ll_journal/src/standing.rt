@@ -1,12 +1,14 @@
 //! Where a seat's walk is.
 
-ghost use Rattle.std.specs.Prelude.{◌≡◌, false};
+ghost use Rattle.std.specs.Prelude.{◌≡◌, false, option_map};
 ghost use Rattle.std.specs.List.{list_any};
 ghost use Rattle.std.specs.Option.{option_map_or};
 ghost use Rattle.ll_laws.specs.Walk as walks;
 ghost use Rattle.ll_journal.specs.Checks as checks;
 ghost use Rattle.ll_journal.specs.Needs.{slots_in};
+ghost use Rattle.ll_journal.specs.Positions.{position_at};
 
+use crate::position::Position;
 use crate::seat::Seat;
 use crate::slots::Slots;
 use crate::stage::{Stage, Turn, turn_of};
@@ -40,6 +42,22 @@ impl Seat {
             Turn::Trunk => Some(self.trunk.here()),
             Turn::First => Some(self.first.here()),
             Turn::Second => Some(self.second.here()),
+        }
+    }
+
+    /// Where the walk is, if one is under way.
+    pub(crate) fn position(&self) -> Option<Position>
+        ensures { result ≡ option_map (λ (walk : walks.Walk). position_at walk.at) self.now.walk }
+    {
+        if self.call.is_none() {
+            return None;
+        }
+        match self.stage {
+            Stage::Above => Some(Position::Above),
+            Stage::Down => Some(Position::Down(self.trunk.stand())),
+            Stage::Split => {
+                Some(Position::Split(self.trunk.stand(), self.first.stand(), self.second.stand()))
+            }
         }
     }
 

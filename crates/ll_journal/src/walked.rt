@@ -16,8 +16,8 @@ pub(crate) fn names_path(call: &Call) -> bool
     }
 }
 
-/// Whether the call walks.
-pub(crate) fn walks(caller: &ClientRecord, call: &Call) -> bool
+/// Reports whether the call walks.
+pub fn walks(caller: &ClientRecord, call: &Call) -> bool
     ensures { result ≡ world.is_walked caller.now call.now }
 {
     names_path(call) && refused_early(caller, call).is_none()

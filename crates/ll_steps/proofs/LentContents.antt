@@ -1,17 +1,21 @@
 -- The slots that are lent to a step, and what lies in all of them after it.
 use Rattle.std.specs.Prelude.{◌≡◌, ◌≢◌, ◌⊎◌, ℕ, ◌+◌, ◌-◌, ◌<◌, List, [], ◌∷◌, ◌++◌, map, length, slice_set}
-use Rattle.std.specs.Prelude.{slice_index_or, refl}
+use Rattle.std.specs.Prelude.{slice_index_or, Option, None, Some, IfSome, refl}
 use Rattle.std.specs.List.{AllByRecursion}
 use Rattle.std.proofs.Common.{sym, ap, subst, ◌∙◌, inl, inr, arith}
 use Rattle.std.proofs.Math.Seq.{set-append_left}
 use Rattle.std.proofs.lemmas.List.{get_or-set_same, get_or_default, get_or_append_left, get_or-append-add, length-set}
 use Rattle.std.proofs.lemmas.List.{set-append_right}
+use Rattle.ll_seq.specs.State.{Name, child, kind_of}
+use Rattle.ll_laws.specs.World.{World, shown}
 use Rattle.ll_node.specs.declared.held.Held.{Held}
 use Rattle.ll_node.specs.Lent.{vacant}
 use Rattle.ll_node.specs.InodeTable.{NotIn}
 use Rattle.ll_node.proofs.SlotLists.{same_or_not}
-use Rattle.ll_journal.specs.Book.{Book, Spares, slot_of}
+use Rattle.ll_journal.specs.Book.{Book, Spares, held_of, inode_in, slot_of}
 use Rattle.ll_journal.specs.SlotTree.{accounts_of}
+use Rattle.ll_journal.proofs.EntryDirs.{all_in}
+use Rattle.ll_journal.proofs.LentSlots.{slot_holds}
 use Rattle.ll_steps.specs.Contents.{held_at}
 use Rattle.ll_steps.proofs.ContentsKept.{account_at, length_accounts, filled_so}
 use Rattle.ll_steps.proofs.Trading.{elsewhere}
@@ -52,10 +56,38 @@ pub at_index : (b : Book) (slots : List Held) (k : ℕ) (held : Held) → slots 
 at_index b slots k held e lt is =
     is ∙ get_or_default slots k held vacant (bound_of b slots k e lt) ∙ account_at b slots k e lt
 
+pub some_bound : (b : Book) (slots : List Held) (o : Option ℕ) → slots ≡ accounts_of b
+    → IfSome o (λ k. k < length b.inodes) → IfSome o (λ k. k < length slots)
+some_bound b slots None e lt = tt
+some_bound b slots (Some k) e lt = bound_of b slots k e lt
+
+-- of an inode that lies there
+pub held_at_index : (b : Book) (slots : List Held) (k inode : ℕ) (held : Held) → slots ≡ accounts_of b
+    → k < length b.inodes → held ≡ slice_index_or slots k held → (inode ≢ 0) × (inode_in b k ≡ inode)
+    → held ≡ held_of b.world inode
+held_at_index b slots k inode held e lt is lies = at_index b slots k held e lt is ∙ slot_holds b k inode lies.1 lies.0
+
+-- what is no node has no entry
+pub no_child : (w : World) (d : ℕ) (name : Name) → kind_of (shown w) d ≡ None → child (shown w) d name ≡ None
+no_child w d name none = by (child (shown w) d name) refl
+  where
+    by : (o : Option ℕ) → child (shown w) d name ≡ o → o ≡ None
+    by None e = refl
+    by (Some x) e = let node = all_in w d name x e in absurd (cc (sym none ∙ node.1))
+
 -- and within the slots
 pub within_accounts : (b : Book) (slots : List Held) (k : ℕ) → slots ≡ accounts_of b → k < length slots
     → k < length b.inodes
 within_accounts b slots k e lt = subst (λ n. k < n) (ap length e ∙ length_accounts b) lt
+
+pub at_slot : (b : Book) (slots : List Held) (k : ℕ) (held : Held) → slots ≡ accounts_of b → k < length slots
+    → held ≡ slice_index_or slots k held → held ≡ slot_of b k
+at_slot b slots k held e lt is = at_index b slots k held e (within_accounts b slots k e lt) is
+
+pub got_slot : (b : Book) (slots : List Held) (k : ℕ) (held : Held) → slots ≡ accounts_of b → k < length slots
+    → slice_index_or slots k held ≡ slot_of b k
+got_slot b slots k held e lt = get_or_default slots k held vacant lt
+    ∙ account_at b slots k e (within_accounts b slots k e lt)
 
 same_head : (x y : Held) (xs ys : List Held) → (x ∷ xs) ≡ (y ∷ ys) → x ≡ y
 same_head x y xs ys e = cc e

@@ -2,9 +2,12 @@ pub mod Adding
 pub mod ContentsKept
 pub mod DirectMakes
 pub mod LentContents
+pub mod NamesMarked
 pub mod Nearing
 pub mod NextSteps
 pub mod Reading
+pub mod Reasons
+pub mod ReasonsFound
 pub mod StepKinds
 pub mod Trading
 pub mod WalkMakes

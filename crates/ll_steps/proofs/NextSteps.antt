@@ -41,22 +41,22 @@ module _ (w : World) (client : ℕ) where
   abbrev done_or_not : Option (world.Outcome × World) → world.Outcome × World
   done_or_not o = unwrap_or o (world.NotNow, w)
 
-  fork_none : get w.walks client ≡ None → Waits w (Fork client)
+  pub fork_none : get w.walks client ≡ None → Waits w (Fork client)
   fork_none none = ap (λ o. done_or_not (option_and_then (fork w client) o)) none
 
-  restart_none : get w.walks client ≡ None → Waits w (Restart client)
+  pub restart_none : get w.walks client ≡ None → Waits w (Restart client)
   restart_none none = ap (λ o. done_or_not (option_and_then (restart w client) o)) none
 
   module _ (walk : Walk) (is : get w.walks client ≡ Some walk) where
     abbrev past_fork : Option Position → Option (world.Outcome × World)
     past_fork o = option_map (λ at. (world.Forked, with_walk w client (record walk { at = at }))) o
 
-    fork_stale : walk.stale ≡ true → Waits w (Fork client)
+    pub fork_stale : walk.stale ≡ true → Waits w (Fork client)
     fork_stale e =
         ap (λ o. done_or_not (option_and_then (fork w client) o)) is
         ∙ ap (λ b. done_or_not (cond b None (past_fork (forked walk.call walk.at)))) e
 
-    fork_away : forked walk.call walk.at ≡ None → Waits w (Fork client)
+    pub fork_away : forked walk.call walk.at ≡ None → Waits w (Fork client)
     fork_away e =
         ap (λ o. done_or_not (option_and_then (fork w client) o)) is
         ∙ ap (λ o. done_or_not (cond walk.stale None (past_fork o))) e ∙ either walk.stale
@@ -65,25 +65,25 @@ module _ (w : World) (client : ℕ) where
         either true = refl
         either false = refl
 
-    restart_fresh : walk.stale ≡ false → Waits w (Restart client)
+    pub restart_fresh : walk.stale ≡ false → Waits w (Restart client)
     restart_fresh e =
         ap (λ o. done_or_not (option_and_then (restart w client) o)) is
         ∙ ap (λ b. done_or_not (cond b (Some (world.Restarted, restarted w client walk)) None)) e
 
-    descend_away : walk.stale ≡ false → (leg : Leg) → turn walk.at ≡ Some leg
+    pub descend_away : walk.stale ≡ false → (leg : Leg) → turn walk.at ≡ Some leg
         → further (shown w) (domain_of w client) leg ≡ None → Waits w (Descend client)
     descend_away fresh leg turned e =
         goes_further w client walk is fresh leg turned
         ∙ ap (λ o. done_or_not (option_and_then (stand w client walk) o)) e
 
-    commit_away : option_map_or (leg_is_blocked (shown w)) (turn walk.at) false ≡ false
+    pub commit_away : option_map_or (leg_is_blocked (shown w)) (turn walk.at) false ≡ false
         → at_ends walk.call walk.at ≡ false → Waits w (Commit client)
     commit_away free more = commit_not_now w client walk is (may_commit_on_the_way w client walk is free more)
 
 -- ---- where a walk is
 
 -- a walk is under way that isn't stale
-abbrev goes : Station → Bool
+abbrev pub goes : Station → Bool
 goes station.Idle = false
 goes station.Stale = false
 goes station.Above = true
@@ -109,13 +109,13 @@ station_goes call (Split trunk old new) = by (is_root old.ahead) (is_root new.ah
     by false b = refl
 
 -- at this place
-record Stands (w : World) (client : ℕ) (place : Station) : Type 0 where
-  walk : Walk
-  is : get w.walks client ≡ Some walk
-  fresh : walk.stale ≡ false
-  there : station_at walk.call walk.at ≡ place
+pub record Stands (w : World) (client : ℕ) (place : Station) : Type 0 where
+  pub walk : Walk
+  pub is : get w.walks client ≡ Some walk
+  pub fresh : walk.stale ≡ false
+  pub there : station_at walk.call walk.at ≡ place
 
-none_idle : (w : World) (client : ℕ) → station_in w client ≡ station.Idle → get w.walks client ≡ None
+pub none_idle : (w : World) (client : ℕ) → station_in w client ≡ station.Idle → get w.walks client ≡ None
 none_idle w client e = by (get w.walks client) e
   where
     by : (o : Option Walk) → station_of o ≡ station.Idle → o ≡ None
@@ -126,7 +126,7 @@ none_idle w client e = by (get w.walks client) e
           | false ↦ λ g. absurd (cc (sym (station_goes walk.call walk.at) ∙ ap goes g))
         ] f
 
-is_stale : (w : World) (client : ℕ) → station_in w client ≡ station.Stale → (walk : Walk)
+pub is_stale : (w : World) (client : ℕ) → station_in w client ≡ station.Stale → (walk : Walk)
     × (get w.walks client ≡ Some walk) × (walk.stale ≡ true)
 is_stale w client e = by (get w.walks client) refl e
   where
@@ -140,7 +140,7 @@ is_stale w client e = by (get w.walks client) refl e
           | false ↦ λ fresh g. absurd (cc (sym (station_goes walk.call walk.at) ∙ ap goes g))
         ] refl f
 
-stands_so : (w : World) (client : ℕ) (place : Station) → station_in w client ≡ place → goes place ≡ true
+pub stands_so : (w : World) (client : ℕ) (place : Station) → station_in w client ≡ place → goes place ≡ true
     → Stands w client place
 stands_so w client place e moves = by (get w.walks client) refl e
   where
@@ -171,7 +171,7 @@ record OnlyRestart (w : World) (client : ℕ) : Type 0 where
   pub descend : Waits w (Descend client)
 
 -- at the fork
-at_fork : (call : Call) (at : Position) → station_at call at ≡ station.Fork → (trunk : Leg) × (at ≡ Down trunk)
+pub at_fork : (call : Call) (at : Position) → station_at call at ≡ station.Fork → (trunk : Leg) × (at ≡ Down trunk)
     × (is_root trunk.ahead ≡ true) × (has_two_paths call ≡ true)
 at_fork call Above e = absurd (cc e)
 at_fork call (Down trunk) e = by (is_root trunk.ahead) refl (has_two_paths call) refl e
@@ -189,7 +189,7 @@ at_fork call (Split trunk old new) e = absurd (by (is_root old.ahead) (is_root n
     by true false f = cc f
     by false b f = cc f
 
-ended_leg : (s : State) (domain : List Layer) (leg : Leg) → is_root leg.ahead ≡ true → (further s domain leg ≡ None)
+pub ended_leg : (s : State) (domain : List Layer) (leg : Leg) → is_root leg.ahead ≡ true → (further s domain leg ≡ None)
     × (leg_is_blocked s leg ≡ false)
 ended_leg s domain leg e = by leg.ahead e
   where
@@ -214,7 +214,7 @@ only_fork w client e =
     }
 
 -- above the root
-above : (call : Call) (at : Position) → station_at call at ≡ station.Above → at ≡ Above
+pub above : (call : Call) (at : Position) → station_at call at ≡ station.Above → at ≡ Above
 above call Above e = refl
 above call (Down trunk) e = absurd (by (is_root trunk.ahead) (has_two_paths call) e)
   where
@@ -241,7 +241,7 @@ only_enter w client e =
     }
 
 -- with a directory to go to
-has_more : (s : State) (domain : List Layer) (leg next : Leg) → further s domain leg ≡ Some next
+pub has_more : (s : State) (domain : List Layer) (leg next : Leg) → further s domain leg ≡ Some next
     → (is_root leg.ahead ≡ false) × (leg_is_blocked s leg ≡ false)
 has_more s domain leg next e = by leg.ahead e
   where
@@ -255,7 +255,7 @@ has_more s domain leg next e = by leg.ahead e
     by (name ∷ rest) f = (refl, found name rest (directory_under s leg.here name) f)
 
 -- past the fork, where it stands there
-abbrev past : Call → Leg → Bool → Option Position
+abbrev pub past : Call → Leg → Bool → Option Position
 past call trunk b = cond b (Some (Split trunk (toward trunk (first_path call)) (toward trunk (second_path call)))) None
 
 neither : (b : Bool) → (b && false) ≡ false
@@ -263,7 +263,7 @@ neither true = refl
 neither false = refl
 
 -- neither at its ends nor at the fork
-on_the_way : (call : Call) (at : Position) (leg : Leg) → turn at ≡ Some leg → is_root leg.ahead ≡ false
+pub on_the_way : (call : Call) (at : Position) (leg : Leg) → turn at ≡ Some leg → is_root leg.ahead ≡ false
     → (at_ends call at ≡ false) × (forked call at ≡ None)
 on_the_way call Above leg turned more = absurd (cc turned)
 on_the_way call (Down trunk) leg turned more =
@@ -313,7 +313,7 @@ only_restart w client e =
     }
 
 -- with its next name in the way
-blocked_leg : (s : State) (domain : List Layer) (leg : Leg) → is_blocked s leg.here leg.ahead ≡ true
+pub blocked_leg : (s : State) (domain : List Layer) (leg : Leg) → is_blocked s leg.here leg.ahead ≡ true
     → (is_root leg.ahead ≡ false) × (further s domain leg ≡ None)
 blocked_leg s domain leg e = by leg.ahead e
   where
@@ -327,7 +327,7 @@ blocked_leg s domain leg e = by leg.ahead e
     by (name ∷ rest) f = (refl, found name rest (directory_under s leg.here name) f)
 
 -- at its ends: with no name ahead, and past the fork if there is one
-at_its_ends : (call : Call) (at : Position) (leg : Leg) → turn at ≡ Some leg → at_ends call at ≡ true
+pub at_its_ends : (call : Call) (at : Position) (leg : Leg) → turn at ≡ Some leg → at_ends call at ≡ true
     → (is_root leg.ahead ≡ true) × (forked call at ≡ None)
 at_its_ends call Above leg turned e = absurd (cc turned)
 at_its_ends call (Down trunk) leg turned e =

@@ -81,7 +81,7 @@ near_top b number slot top is astray = astray.1 top is
 
 -- ---- a leg that stands
 
-turns : (at : Position) (leg : Leg) → turn at ≡ Some leg → is_above at ≡ false
+pub turns : (at : Position) (leg : Leg) → turn at ≡ Some leg → is_above at ≡ false
 turns Above leg e = absurd (cc e)
 turns (Down trunk) leg e = refl
 turns (Split trunk old new) leg e = refl

@@ -5,3 +5,4 @@ pub mod Left
 pub mod Makes
 pub mod Tells
 pub mod Told
+pub mod Unmet

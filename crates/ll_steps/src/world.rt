@@ -1,12 +1,12 @@
 //! The shared tree with the walks under way.
 
-ghost use Rattle.std.specs.Prelude.{◌≡◌, ◌≤◌, IfOk};
+ghost use Rattle.std.specs.Prelude.{◌≡◌, ◌≤◌, IfOk, option_map};
 ghost use Rattle.ll_rights.specs.declared.limits.TheConstants.{HISTORY_ENTRIES, TREE_NODES};
 
 use crate::slots::{Hands, new_hands, new_slots};
-use ll_journal::{Journal, Station};
+use ll_journal::{Journal, Position, Station};
 use ll_node::Held;
-use ll_seq::{History, Rules};
+use ll_seq::{Call, History, Rules};
 use std::alloc::{AllocError, Global};
 use std::marker::Model;
 
@@ -35,8 +35,11 @@ impl Model for World {
 }
 
 impl World {
-    ghost use Rattle.ll_rights.specs.Map.{len};
+    ghost use Rattle.ll_rights.specs.Map.{get, len};
+    ghost use Rattle.ll_seq.specs.State.{child};
+    ghost use Rattle.ll_laws.specs.Walk.{Walk};
     ghost use Rattle.ll_laws.specs.World.{new_world, shown};
+    ghost use Rattle.ll_journal.specs.Positions.{position_in};
     ghost use Rattle.ll_journal.specs.Stations.{station_in};
 
     /// Returns a tree with only the root and no clients, for at most `nodes` nodes. Reserves room for `history`
@@ -80,5 +83,37 @@ impl World {
         ensures { result ≡ station_in self.now client }
     {
         self.journal.station(client)
+    }
+
+    /// Returns the client's call whose walk is under way.
+    pub fn call(&self, client: u64) -> Option<&Call>
+        ensures { option_map (λ call. call.now) result
+            ≡ option_map (λ (walk : Walk). walk.call) (get self.now.walks client) }
+    {
+        self.journal.call(client)
+    }
+
+    /// Returns where the client's walk is, if one is under way.
+    pub fn position(&self, client: u64) -> Option<Position>
+        ensures { result ≡ position_in self.now client }
+    {
+        self.journal.position(client)
+    }
+
+    /// Returns the client that holds the move gate.
+    pub fn gate(&self) -> Option<u64>
+        ensures { result ≡ self.now.gate }
+    {
+        self.journal.gate()
+    }
+
+    /// Returns the inode of the name in the directory.
+    pub fn child(&self, directory: u64, name: &str) -> Option<u64>
+        ensures { result ≡ child (shown self.now) directory name.now }
+    {
+        let Some(slot) = self.journal.slot(directory) else {
+            return None;
+        };
+        self.slots[slot as usize].node.look_up(name)
     }
 }
