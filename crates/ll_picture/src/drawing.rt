@@ -7,7 +7,6 @@ ghost use Rattle.ll_picture.specs.Pictures.{IsPicture};
 ghost use Rattle.ll_wire.specs.Pieces.{pieces};
 
 use crate::replay::Replay;
-use crate::shadow::Shadow;
 use crate::window::Window;
 use crate::{Column, picture_of};
 use ll_seq::Rules;
@@ -27,10 +26,8 @@ fn replay_in(
     requires entry { 1 ≤ history }
     requires entries { history ≤ HISTORY_ENTRIES }
 {
-    let Rules { abi, copies } = rules;
-    let shadow = Shadow::new(alloc, Rules { abi, copies }, nodes)?;
-    let world = World::new(alloc, Rules { abi, copies }, nodes, history)?;
-    Ok(Replay::new(alloc, world, shadow))
+    let world = World::new(alloc, rules, nodes, history)?;
+    Ok(Replay::new(alloc, world))
 }
 
 // Makes a line of the schedule. Adds its column if it is drawn.
@@ -43,11 +40,9 @@ fn draw_line(
     ensures { OnOk result (length columns.new.items
         ≡ (if is_drawn then suc (length columns.old.items) else length columns.old.items)) }
 {
-    let column = replay.take_line(line)?;
+    let told = replay.take_line(line)?;
     if is_drawn {
-        columns.push(column)?;
-    } else {
-        drop(column);
+        columns.push(replay.column(line, told)?)?;
     }
     Ok(())
 }
@@ -104,7 +99,7 @@ fn reasons_of(replay: &mut Replay, schedule: &[u8]) -> Result<String, AllocError
     let mut rest = schedule;
     while !rest.is_empty() {
         let (line, more) = split_line(rest);
-        drop(replay.take_line(line)?);
+        replay.take_line(line)?;
         rest = more;
     }
     replay.reasons()

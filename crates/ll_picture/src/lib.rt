@@ -2,21 +2,19 @@
 #![tactic(auto)]
 
 mod canvas;
-mod course;
 mod drawing;
+mod front;
 mod head;
 mod legend;
 mod picture;
+mod reason;
 mod replay;
 mod scene;
 mod seat;
-mod shadow;
 mod sheet;
 mod style;
 mod told;
 mod track;
-mod unmet;
-mod waits;
 mod window;
 
 pub use drawing::{draw, explain};

@@ -1,35 +1,30 @@
-//! Runs a schedule again, and finds what happens to each client and why steps can't be made.
+//! Makes a schedule's steps, and records what happens to each client and why steps aren't enabled.
 
 ghost use Rattle.std.specs.Prelude.{◌≡◌, IfOk};
 
-use crate::course::{Course, moves};
+use crate::front::Way;
+use crate::reason::{Reason, Trial, branch_at};
 use crate::seat::Seat;
-use crate::shadow::Shadow;
-use crate::told::{ending_in, outcome_words, refusal_words};
-use crate::waits::{Manner, Scenery, Trial, manner_of};
-use crate::{Column, Row, Scene, Wait};
+use crate::told::{Told, ending_in};
+use crate::{Column, Obstacle, Row, Scene, Wait};
 use ll_journal::Station;
 use ll_laws::Step;
 use ll_seq::Call;
-use ll_steps::{Report, World};
+use ll_steps::{Report, Unmet, World};
 use ll_wire::{ScheduleLine, read_schedule_line, shown};
 use std::alloc::{AllocError, Global};
 use std::mem;
-
-/// More steps than one walk can make alone: a path has at most 64 names.
-const MOST_STEPS: usize = 256;
 
 /// The tree, and what has happened to each client.
 #[derive(Drop)]
 pub struct Replay {
     alloc: Global,
     world: World,
-    shadow: Shadow,
     // The current line, from 0.
     line: usize,
     seats: Vec<Seat>,
-    // Why steps couldn't be made, one line each.
-    told: String,
+    // Why steps weren't enabled, one line each.
+    reasons: String,
 }
 
 // The client that makes the step. For a connect, the client that would be next.
@@ -46,20 +41,6 @@ fn client_of(step: &Step, next: u64) -> u64 {
     }
 }
 
-// What the step tries. A connect always gets a reply.
-fn trial_of(shadow: &Shadow, step: &Step) -> Trial {
-    match step {
-        Step::Join => Trial::Make(Manner::Step),
-        Step::Begin(client, call) => Trial::Begin(manner_of(shadow, *client, call), moves(call)),
-        Step::FdCommit(client, call) => Trial::Make(manner_of(shadow, *client, call)),
-        Step::ClientStep(client, call) => Trial::Make(manner_of(shadow, *client, call)),
-        Step::Descend(_) => Trial::Descend,
-        Step::Fork(_) => Trial::Fork,
-        Step::Commit(_) => Trial::Commit,
-        Step::Restart(_) => Trial::Restart,
-    }
-}
-
 // The text of a call in its line, after the client and the kind of step.
 fn call_in(line: &str) -> &str {
     match line.split_once(' ') {
@@ -71,9 +52,14 @@ fn call_in(line: &str) -> &str {
     }
 }
 
-// The row of a client. Clients are numbered from 1.
+// The row of a client, which are numbered from 1.
 fn row_of(client: u64) -> usize {
     client.saturating_sub(1) as usize
+}
+
+// The client of a row.
+fn client_at(row: usize) -> u64 {
+    (row as u64).saturating_add(1)
 }
 
 // The text that is shown of a line.
@@ -81,50 +67,17 @@ fn line_shown(alloc: Global, line: &[u8]) -> Result<String, AllocError> {
     shown(alloc, line.strip_suffix(b"\n").unwrap_or(line))
 }
 
-// The column of a line, from its outcome and its client's row.
+// A line's column, if memory sufficed for both texts.
 fn column_of(
-    line: String,
-    made: Result<(String, Option<usize>), AllocError>,
+    line: Result<String, AllocError>,
+    outcome: Result<String, AllocError>,
+    row: Option<usize>,
 ) -> Result<Column, AllocError> {
-    let (outcome, row) = made?;
-    Ok(Column { line, outcome, row })
-}
-
-// Appends a text.
-fn add(text: &mut String, part: Result<String, AllocError>) -> Result<(), AllocError> {
-    let part = part?;
-    let added = text.push_str(part.as_str());
-    drop(part);
-    added
-}
-
-// Reports that the client's walk, which is at this station, is still under way.
-fn walk_left(
-    alloc: Global,
-    client: u64,
-    at: Station,
-    course: &Course,
-) -> Result<String, AllocError> {
-    let call = course.call.as_str();
-    let gate = if course.has_gate {
-        ", and holds the move gate"
-    } else {
-        ""
-    };
-    let stale = if at == Station::Stale { ", stale" } else { "" };
-    let places = course.places();
-    match at {
-        Station::Above => {
-            format!(in alloc;
-                "at the end client {client}'s `{call}` is under way, above the root{gate}\n"
-            )
-        }
-        _ => {
-            format!(in alloc;
-                "at the end client {client}'s `{call}` is under way, in {places}{stale}{gate}\n"
-            )
-        }
-    }
+    Ok(Column {
+        line: line?,
+        outcome: outcome?,
+        row,
+    })
 }
 
 // Turns the seats into rows.
@@ -153,197 +106,146 @@ fn scene_of(
 }
 
 impl Replay {
-    pub fn new(alloc: Global, world: World, shadow: Shadow) -> Replay {
+    pub fn new(alloc: Global, world: World) -> Replay {
         Replay {
             alloc,
             world,
-            shadow,
             line: 0,
             seats: Vec::new(alloc),
-            told: String::new(alloc),
+            reasons: String::new(alloc),
         }
     }
 
-    // Begins the client's walk.
-    fn begin(&mut self, client: u64, course: Course) -> Result<(), AllocError> {
-        match self.seats.get_mut(row_of(client)) {
-            Some(seat) => seat.begin(self.line, course),
-            None => {
-                drop(course);
-                Ok(())
+    fn has_gate(&self, client: u64) -> bool {
+        self.world.gate() == Some(client)
+    }
+
+    // What another client has in a step's way.
+    fn obstacle_of(&self, unmet: Unmet) -> Option<Obstacle> {
+        match unmet {
+            Unmet::Gate(holder) => {
+                Some(Obstacle {
+                    row: row_of(holder),
+                    bar: None,
+                })
             }
+            Unmet::Marked(inode, other) => {
+                let bar = self.seats.get(row_of(other))?.bar_on(inode)?;
+                Some(Obstacle {
+                    row: row_of(other),
+                    bar: Some(bar),
+                })
+            }
+            _ => None,
         }
     }
 
-    // Records the outcome of a step of the client's walk, except the one that begins it.
-    fn tell(&mut self, client: u64, from: Station, outcome: Report) -> Result<(), AllocError> {
-        let line = self.line;
-        let ending = ending_in(&self.world, outcome);
-        match (self.seats.get_mut(row_of(client)), ending) {
-            (Some(seat), Some(ending)) => seat.answer(line, from, ending),
-            (Some(seat), None) => seat.step(self.alloc, line, from, outcome),
-            (None, _) => Ok(()),
+    // Who moved a directory on the way of the client's walk.
+    fn mover_of(&self, client: u64) -> Option<u64> {
+        match self.seats.get(row_of(client))?.mover {
+            Some(row) => Some(client_at(row)),
+            None => None,
         }
     }
 
-    // Finds why the client, whose walk is at this station, can't make the step now.
-    fn wait_of(&self, client: u64, at: Station, trial: Trial) -> Result<Wait, AllocError> {
-        let scenery = Scenery {
-            seats: self.seats.as_slice(),
-            shadow: &self.shadow,
-        };
-        scenery
-            .cause_of(row_of(client), at, trial)
-            .told(self.alloc, client)
+    // Why the client's step isn't enabled.
+    fn wait_of(&self, client: u64, trial: Trial, unmet: Unmet) -> Result<Wait, AllocError> {
+        let cause = Reason::new(&self.world, client, trial, unmet, self.mover_of(client));
+        Ok(Wait {
+            reason: format!(in self.alloc; "{cause}")?,
+            obstacle: self.obstacle_of(unmet),
+        })
     }
 
-    // Records that the client waits.
-    fn seat_wait(&mut self, client: u64, wait: Wait) -> Result<(), AllocError> {
+    // Records why the client's step isn't enabled.
+    fn wait(&mut self, client: u64, trial: Trial, unmet: Unmet) -> Result<(), AllocError> {
+        let wait = self.wait_of(client, trial, unmet)?;
+        let number = self.line.saturating_add(1);
+        let line = format!(in self.alloc; "line {number}: {}\n", wait.reason.as_str())?;
+        self.reasons.push_str(line.as_str())?;
         match self.seats.get_mut(row_of(client)) {
             Some(seat) => seat.wait(self.line, wait),
-            None => {
-                drop(wait);
-                Ok(())
-            }
+            None => Ok(()),
         }
     }
 
-    // Finds and records why the client, whose walk is at this station, can't make the step now.
-    fn wait(&mut self, client: u64, at: Station, trial: Trial) -> Result<(), AllocError> {
-        let wait = self.wait_of(client, at, trial)?;
-        let number = self.line.saturating_add(1);
-        let line = format!(in self.alloc; "line {number}: {}\n", wait.reason.as_str());
-        let seated = self.seat_wait(client, wait);
-        add(&mut self.told, line)?;
-        seated
-    }
-
-    // Records the outcome of a step that begins no walk, or why it couldn't be made.
-    fn tell_or_wait(
+    // Records the outcome of an enabled step of the client, whose walk was at this station.
+    fn tell(
         &mut self,
         client: u64,
         from: Station,
-        outcome: Report,
-        trial: Trial,
+        report: Report,
+        words: &str,
     ) -> Result<(), AllocError> {
-        if outcome == Report::NotNow {
-            self.wait(client, from, trial)
-        } else {
-            self.tell(client, from, outcome)
-        }
-    }
-
-    // Records the outcome of a step that begins a walk, given the walk's course, or why it couldn't be made.
-    fn tell_begin(
-        &mut self,
-        client: u64,
-        from: Station,
-        outcome: Report,
-        course: Course,
-        trial: Trial,
-    ) -> Result<(), AllocError> {
-        if outcome == Report::Begun {
-            self.begin(client, course)
-        } else {
-            drop(course);
-            self.tell_or_wait(client, from, outcome, trial)
-        }
-    }
-
-    // Makes the step that begins a call's walk.
-    fn begin_walk(&mut self, client: u64, call: Call, words: &str) -> Result<Report, AllocError> {
-        let trial = Trial::Begin(manner_of(&self.shadow, client, &call), moves(&call));
-        let course = Course::new(self.alloc, &call, words);
-        let from = self.world.station(client);
-        let outcome = self.world.step(Step::Begin(client, call));
-        self.tell_begin(client, from, outcome, course?, trial)?;
-        Ok(outcome)
-    }
-
-    // Makes any other step. Its client has a row already.
-    fn take_other(&mut self, step: Step) -> Result<(u64, Report), AllocError> {
-        let client = client_of(&step, self.world.clients().saturating_add(1));
-        let trial = trial_of(&self.shadow, &step);
-        let from = self.world.station(client);
-        let outcome = self.world.step(step);
-        self.tell_or_wait(client, from, outcome, trial)?;
-        Ok((client, outcome))
-    }
-
-    fn take_step(&mut self, step: Step, words: &str) -> Result<(u64, Report), AllocError> {
-        match step {
-            Step::Begin(client, call) => {
-                let outcome = self.begin_walk(client, call, words)?;
-                Ok((client, outcome))
-            }
-            _ => self.take_other(step),
-        }
-    }
-
-    // Makes the first possible step of the client's walk: commit, fork, descent, or restart.
-    fn go_on(&mut self, client: u64) -> Report {
-        let committed = self.world.step(Step::Commit(client));
-        if committed.was_enabled() {
-            return committed;
-        }
-        let forked = self.world.step(Step::Fork(client));
-        if forked.was_enabled() {
-            return forked;
-        }
-        let descended = self.world.step(Step::Descend(client));
-        if descended.was_enabled() {
-            return descended;
-        }
-        self.world.step(Step::Restart(client))
-    }
-
-    // Leads the client's walk to its answer, or until it has to wait.
-    fn lead(&mut self, client: u64) -> Result<Report, AllocError> {
-        for _ in 0..MOST_STEPS {
-            let from = self.world.station(client);
-            let outcome = self.go_on(client);
-            if outcome == Report::NotNow {
-                break;
-            }
-            if let Some(ending) = ending_in(&self.world, outcome) {
-                if let Some(seat) = self.seats.get_mut(row_of(client)) {
-                    seat.make(self.line, ending)?;
-                }
-                return Ok(outcome);
-            }
-            self.tell(client, from, outcome)?;
-        }
-        let at = self.world.station(client);
-        let trial = match at {
-            Station::End => Trial::Commit,
-            _ => Trial::Descend,
+        let (alloc, line, has_gate) = (self.alloc, self.line, self.has_gate(client));
+        let way = Way::of(&self.world, client);
+        let Some(seat) = self.seats.get_mut(row_of(client)) else {
+            return Ok(());
         };
-        self.wait(client, at, trial)?;
-        Ok(Report::NotNow)
+        if let Some(ending) = ending_in(&self.world, report) {
+            return seat.answer(line, from, ending);
+        }
+        match (report, way) {
+            (Report::Begun, _) => seat.begin(line, words, has_gate),
+            (Report::Stands(_), Some(way)) => {
+                seat.hold(line, has_gate)?;
+                seat.stand(alloc, line, way, branch_at(from))
+            }
+            (Report::Forked, _) => seat.fork(line),
+            (Report::Restarted, _) => seat.restart(line),
+            _ => Ok(()),
+        }
+    }
+
+    // Makes one step.
+    fn take_step(&mut self, step: Step, words: &str) -> Result<(u64, Report), AllocError> {
+        let client = client_of(&step, self.world.clients().saturating_add(1));
+        let trial = Trial::of(&step);
+        let from = self.world.station(client);
+        let (report, unmet) = self.world.attempt(step);
+        match unmet {
+            Some(unmet) => self.wait(client, trial, unmet)?,
+            None => self.tell(client, from, report, words)?,
+        }
+        Ok((client, report))
+    }
+
+    // Records that a call's walk has begun and now waits.
+    fn stop(&mut self, client: u64, words: &str) -> Result<(), AllocError> {
+        let (alloc, line, has_gate) = (self.alloc, self.line, self.has_gate(client));
+        if let Some(way) = Way::of(&self.world, client)
+            && let Some(seat) = self.seats.get_mut(row_of(client))
+        {
+            seat.come_far(alloc, line, words, has_gate, way)?;
+        }
+        let step = match self.world.station(client) {
+            Station::End => Step::Commit(client),
+            _ => Step::Descend(client),
+        };
+        match self.world.unmet(&step) {
+            Some(unmet) => self.wait(client, Trial::of(&step), unmet),
+            None => Ok(()),
+        }
     }
 
     // Makes all steps of a call.
     fn take_call(&mut self, client: u64, call: Call, words: &str) -> Result<Report, AllocError> {
         let from = self.world.station(client);
-        let manner = manner_of(&self.shadow, client, &call);
-        if from == Station::Idle && matches!(manner, Manner::Begin) {
-            return match self.begin_walk(client, call, words)? {
-                Report::Begun => self.lead(client),
-                outcome => Ok(outcome),
-            };
+        let unmet = self.world.unmet_begin(client, &call);
+        let report = self.world.make(client, call);
+        match unmet {
+            _ if report.was_enabled() => self.tell(client, from, report, words)?,
+            Some(Unmet::UnderWay) => self.wait(client, Trial::Make, Unmet::UnderWay)?,
+            Some(unmet) => self.wait(client, Trial::Begin, unmet)?,
+            None => self.stop(client, words)?,
         }
-        let outcome = self.world.make(client, call);
-        self.tell_or_wait(client, from, outcome, Trial::Make(manner))?;
-        Ok(outcome)
+        Ok(report)
     }
 
-    // Checks for each walk whether the line's step made it stale.
+    // Checks for each walk whether the answer to the client of this row made it stale.
     fn see_walks(&mut self, mover: usize) -> Result<(), AllocError> {
-        let line = self.line;
-        let mut client = 0u64;
-        for seat in self.seats.iter_mut() {
-            client = client.saturating_add(1);
-            seat.see(line, self.world.station(client), mover)?;
+        for (row, seat) in self.seats.iter_mut().enumerate() {
+            seat.see(self.line, self.world.station(client_at(row)), mover)?;
         }
         Ok(())
     }
@@ -351,73 +253,90 @@ impl Replay {
     // Adds a row for each new client.
     fn seat_all(&mut self) -> Result<(), AllocError> {
         for _ in self.seats.len() as u64..self.world.clients() {
-            self.seats.push(Seat::new(self.alloc))?;
-            if let Some(seat) = self.seats.last_mut() {
-                seat.come(self.line)?;
-            }
+            let mut seat = Seat::new(self.alloc);
+            seat.come(self.line)?;
+            self.seats.push(seat)?;
         }
         Ok(())
     }
 
-    // Makes what the line asks for. Returns its outcome in words, and the row of its client.
-    fn take_asked(
-        &mut self,
-        asked: ScheduleLine,
-        words: &str,
-    ) -> Result<(String, Option<usize>), AllocError> {
-        let (client, outcome) = match asked {
+    // Makes what a line asks for.
+    fn take_asked(&mut self, asked: ScheduleLine, words: &str) -> Result<Told, AllocError> {
+        let (client, report) = match asked {
             ScheduleLine::Step(step) => self.take_step(step, words)?,
             ScheduleLine::Do(client, call) => (client, self.take_call(client, call, words)?),
         };
         let row = row_of(client);
-        self.see_walks(row)?;
+        if matches!(report, Report::Replied(_)) {
+            self.see_walks(row)?;
+        }
         self.seat_all()?;
-        self.shadow.follow(self.world.history().entries())?;
-        let told = outcome_words(self.alloc, &self.world, outcome)?;
-        Ok((told, Some(row)))
+        Ok(Told {
+            answer: Ok(report),
+            row: Some(row),
+        })
     }
 
-    // Parses a line and makes what it asks for, or records why it was refused.
-    fn make_line(
-        &mut self,
-        line: &[u8],
-        words: &str,
-    ) -> Result<(String, Option<usize>), AllocError> {
+    // Parses a line and makes what it asks for.
+    fn make_line(&mut self, line: &[u8], words: &str) -> Result<Told, AllocError> {
         match read_schedule_line(self.alloc, line, self.world.clients()) {
             Ok(asked) => self.take_asked(asked, words),
             Err(errno) => {
-                let told = refusal_words(self.alloc, errno)?;
-                Ok((told, None))
+                Ok(Told {
+                    answer: Err(errno),
+                    row: None,
+                })
             }
         }
     }
 
-    /// Makes what a line of the schedule asks for. Returns its column. Errors: memory ran out.
-    pub fn take_line(&mut self, line: &[u8]) -> Result<Column, AllocError> {
+    /// Makes what a line of the schedule asks for. Errors: memory ran out.
+    pub fn take_line(&mut self, line: &[u8]) -> Result<Told, AllocError> {
         let text = line_shown(self.alloc, line)?;
-        let made = self.make_line(line, call_in(text.as_str()));
+        let told = self.make_line(line, call_in(text.as_str()));
         self.line = self.line.saturating_add(1);
-        column_of(text, made)
+        told
+    }
+
+    /// Returns the column of the line that was made last. Errors: memory ran out.
+    pub fn column(&self, line: &[u8], told: Told) -> Result<Column, AllocError> {
+        column_of(
+            line_shown(self.alloc, line),
+            told.words(self.alloc, &self.world),
+            told.row,
+        )
     }
 
     // Reports which walks are still under way, one line each.
     fn tell_walks_left(&mut self) -> Result<(), AllocError> {
-        let mut client = 0u64;
-        for seat in self.seats.iter() {
-            client = client.saturating_add(1);
-            if let Some(course) = &seat.course {
-                let at = self.world.station(client);
-                add(&mut self.told, walk_left(self.alloc, client, at, course))?;
+        for (row, seat) in self.seats.iter().enumerate() {
+            let client = client_at(row);
+            let Some(way) = Way::of(&self.world, client) else {
+                continue;
+            };
+            let words = seat.call.as_str();
+            write!(
+                self.reasons,
+                "at the end client {client}'s `{words}` is under way, "
+            )?;
+            match self.world.station(client) {
+                Station::Above => self.reasons.push_str("above the root")?,
+                Station::Stale => write!(self.reasons, "in {way}, stale")?,
+                _ => write!(self.reasons, "in {way}")?,
             }
+            if self.world.gate() == Some(client) {
+                self.reasons.push_str(", and holds the move gate")?;
+            }
+            self.reasons.push_str("\n")?;
         }
         Ok(())
     }
 
-    /// Returns why steps couldn't be made, one line each, and then which walks are still under way. Errors: memory ran
+    /// Returns why steps weren't enabled, one line each, and then which walks are still under way. Errors: memory ran
     /// out.
     pub fn reasons(&mut self) -> Result<String, AllocError> {
         self.tell_walks_left()?;
-        Ok(mem::replace(&mut self.told, String::new(self.alloc)))
+        Ok(mem::replace(&mut self.reasons, String::new(self.alloc)))
     }
 
     /// Returns the scene of these columns. `first` is the number of the first one's line, from 0. Errors: memory ran

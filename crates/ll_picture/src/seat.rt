@@ -1,24 +1,51 @@
 //! The clients of a schedule.
 
-use crate::course::Course;
+use crate::front::Way;
 use crate::{Branch, Ending, Event, Moment, Wait};
-use ll_journal::Station;
-use ll_steps::Report;
+use ll_journal::{Position, Station};
 use std::alloc::{AllocError, Global};
 
-/// What has happened to a client, and its walk, if one is under way. Functions that record an event fail only if memory
-/// runs out.
+/// A directory that a walk has marked, and how many bars below its client's line the mark is drawn.
+#[derive(Clone, Copy)]
+struct Bar {
+    inode: u64,
+    below: usize,
+}
+
+/// What has happened to a client, and the marks of its walk, if one is under way.
 #[derive(Drop)]
 pub struct Seat {
     pub moments: Vec<Moment>,
-    pub course: Option<Course>,
+    /// The words of the call whose walk is under way.
+    pub call: String,
+    bars: usize,
+    trunk: Option<Bar>,
+    first: Option<Bar>,
+    second: Option<Bar>,
+    has_gate: bool,
+    /// The row of the client that moved a directory on the walk's way, since its last start.
+    pub mover: Option<usize>,
+}
+
+// The bar of the mark, if it is on the directory.
+fn bar_of(bar: Option<Bar>, inode: u64) -> Option<usize> {
+    match bar {
+        Some(bar) if bar.inode == inode => Some(bar.below),
+        _ => None,
+    }
 }
 
 impl Seat {
     pub fn new(alloc: Global) -> Seat {
         Seat {
             moments: Vec::new(alloc),
-            course: None,
+            call: String::new(alloc),
+            bars: 0,
+            trunk: None,
+            first: None,
+            second: None,
+            has_gate: false,
+            mover: None,
         }
     }
 
@@ -27,122 +54,115 @@ impl Seat {
         Ok(())
     }
 
+    // Forgets the marks of the walk.
+    fn unmark(&mut self) {
+        self.bars = 0;
+        self.trunk = None;
+        self.first = None;
+        self.second = None;
+        self.mover = None;
+    }
+
     /// Records that the client is new.
     pub fn come(&mut self, line: usize) -> Result<(), AllocError> {
         self.note(line, Event::Came)
     }
 
-    /// Records that its walk begins.
-    pub fn begin(&mut self, line: usize, course: Course) -> Result<(), AllocError> {
-        let takes_gate = course.has_gate;
-        self.course = Some(course);
+    /// Records that its walk begins, and whether it holds the gate.
+    pub fn begin(&mut self, line: usize, words: &str, has_gate: bool) -> Result<(), AllocError> {
+        self.unmark();
+        self.call.clear();
+        self.call.push_str(words)?;
         self.note(line, Event::Begun)?;
-        if takes_gate {
+        self.hold(line, has_gate)
+    }
+
+    /// Records whether its walk holds the gate.
+    pub fn hold(&mut self, line: usize, has_gate: bool) -> Result<(), AllocError> {
+        let takes = has_gate && !self.has_gate;
+        self.has_gate = has_gate;
+        if takes {
             self.note(line, Event::GateTaken)?;
         }
         Ok(())
     }
 
-    // Whether the line's last event is that the walk is on this branch. The steps of a whole call cause several of
-    // these.
-    fn stands_already(&self, line: usize, branch: Branch) -> bool {
-        match self.moments.last() {
-            Some(
-                Moment {
-                    line: last,
-                    event: Event::Stands(known, _),
-                },
-            ) => *last == line && *known == branch,
-            _ => false,
-        }
-    }
-
-    // Takes the move gate if the walk takes it when it leaves this station. Returns whether it did.
-    fn takes_gate(&mut self, from: Station) -> bool {
-        match &mut self.course {
-            Some(course) if from == Station::Above && course.enters_by_gate() => {
-                course.has_gate = true;
-                true
-            }
-            _ => false,
-        }
-    }
-
-    // Records the descent of the walk, if one is under way.
-    fn descend(
+    /// Records that the walk's leg on this branch is in its directory.
+    pub fn stand(
         &mut self,
         alloc: Global,
         line: usize,
-        from: Station,
-        inode: u64,
-        is_again: bool,
+        way: Way<'_>,
+        branch: Branch,
     ) -> Result<(), AllocError> {
-        let Some(course) = &mut self.course else {
+        let Some(stand) = way.stand(branch) else {
             return Ok(());
         };
-        let spot = course.descend(alloc, from, inode, !is_again)?;
-        self.note(line, Event::Stands(Course::branch_at(from), spot))
+        self.bars = self.bars.saturating_add(1);
+        let bar = Some(Bar {
+            inode: stand.inode,
+            below: self.bars,
+        });
+        match branch {
+            Branch::Trunk => self.trunk = bar,
+            Branch::First => self.first = bar,
+            Branch::Second => self.second = bar,
+        }
+        let spot = way.here(branch).spot(alloc)?;
+        self.note(line, Event::Stands(branch, spot))
     }
 
-    fn stand(
-        &mut self,
-        alloc: Global,
-        line: usize,
-        from: Station,
-        inode: u64,
-    ) -> Result<(), AllocError> {
-        if self.course.is_none() {
-            return Ok(());
-        }
-        let is_again = self.stands_already(line, Course::branch_at(from));
-        if is_again {
-            let before = self.moments.len().saturating_sub(1);
-            self.moments.truncate(before);
-        }
-        if self.takes_gate(from) {
-            self.note(line, Event::GateTaken)?;
-        }
-        self.descend(alloc, line, from, inode, is_again)
-    }
-
-    fn fork(&mut self, line: usize) -> Result<(), AllocError> {
-        if let Some(course) = &mut self.course {
-            course.fork();
-        }
+    pub fn fork(&mut self, line: usize) -> Result<(), AllocError> {
         self.note(line, Event::Forked)
     }
 
-    fn restart(&mut self, line: usize) -> Result<(), AllocError> {
-        if let Some(course) = &mut self.course {
-            course.restart();
-        }
+    pub fn restart(&mut self, line: usize) -> Result<(), AllocError> {
+        self.unmark();
         self.note(line, Event::Restarted)
     }
 
-    /// Records a step of the client's walk, which was at this station. The outcome has no reply.
-    pub fn step(
+    // Records each directory that a walk has come to within one line.
+    fn stand_everywhere(
         &mut self,
         alloc: Global,
         line: usize,
-        from: Station,
-        outcome: Report,
+        way: Way<'_>,
     ) -> Result<(), AllocError> {
-        match outcome {
-            Report::Stands(inode) => self.stand(alloc, line, from, inode),
-            Report::Forked => self.fork(line),
-            Report::Restarted => self.restart(line),
-            _ => Ok(()),
+        self.stand(alloc, line, way, Branch::Trunk)?;
+        if !matches!(way.at, Position::Split(..)) {
+            return Ok(());
         }
+        self.fork(line)?;
+        for branch in [Branch::First, Branch::Second] {
+            if way.has_left(branch) {
+                self.stand(alloc, line, way, branch)?;
+            }
+        }
+        Ok(())
     }
 
-    /// Records that a step of the client can't be made now.
+    /// Records that its walk begins and comes this far within one line, and whether it holds the gate.
+    pub fn come_far(
+        &mut self,
+        alloc: Global,
+        line: usize,
+        words: &str,
+        has_gate: bool,
+        way: Way<'_>,
+    ) -> Result<(), AllocError> {
+        self.begin(line, words, has_gate)?;
+        self.stand_everywhere(alloc, line, way)
+    }
+
+    /// Records that a step of the client isn't enabled.
     pub fn wait(&mut self, line: usize, wait: Wait) -> Result<(), AllocError> {
         self.note(line, Event::NotNow(wait))
     }
 
     /// Records that the client's call, whose walk was at this station, got its reply.
     pub fn answer(&mut self, line: usize, from: Station, ending: Ending) -> Result<(), AllocError> {
-        self.course = None;
+        self.unmark();
+        self.has_gate = false;
         self.note(
             line,
             match from {
@@ -152,40 +172,17 @@ impl Seat {
         )
     }
 
-    // The number of events before this line.
-    fn count_before(&self, line: usize) -> usize {
-        let mut count = 0usize;
-        for moment in self.moments.iter() {
-            if moment.line == line {
-                return count;
-            }
-            count = count.saturating_add(1);
-        }
-        count
-    }
-
-    /// Records that a call got its reply within one line: its walk isn't shown.
-    pub fn make(&mut self, line: usize, ending: Ending) -> Result<(), AllocError> {
-        self.course = None;
-        let before = self.count_before(line);
-        self.moments.truncate(before);
-        self.note(line, Event::Made(ending))
-    }
-
-    // Whether the walk, which is at this station, has just become stale.
-    fn becomes_stale(&mut self, at: Station, mover: usize) -> bool {
-        match &mut self.course {
-            Some(course) if at == Station::Stale && course.mover.is_none() => {
-                course.mover = Some(mover);
-                true
-            }
-            _ => false,
-        }
+    /// Returns the bar of the walk's mark on the directory, if it has one.
+    pub fn bar_on(&self, inode: u64) -> Option<usize> {
+        bar_of(self.trunk, inode)
+            .or(bar_of(self.first, inode))
+            .or(bar_of(self.second, inode))
     }
 
     /// Updates where the walk is. If it has become stale, the client of row `mover` moved the directory.
     pub fn see(&mut self, line: usize, at: Station, mover: usize) -> Result<(), AllocError> {
-        if self.becomes_stale(at, mover) {
+        if at == Station::Stale && self.mover.is_none() {
+            self.mover = Some(mover);
             self.note(line, Event::Overtaken(mover))?;
         }
         Ok(())
