@@ -5,6 +5,7 @@ import re
 from fuzzing.calls import Maker, sizes
 from fuzzing.grammar import BAD, FULL, MOVES, NO_MEMORY, ON_DESCRIPTOR, is_call, is_refused, is_reply, whole_and_last
 from fuzzing.program import Case, holds, same
+from fuzzing.walks import World, cut
 
 WITH_CALL = ("begin", "fd", "step", "do")
 OUTCOMES = {"begin": "begun", "descend": "at [1-9][0-9]*", "fork": "forked", "restart": "restarted"}
@@ -207,6 +208,21 @@ class Follower:
             (self.calls(client, word, call, outcome) if call else self.goes_on(client, word, outcome))
 
 
+def judge_reasons(program, case, lines, outcomes):
+    """Compares the outcomes, and what is said of steps that aren't enabled, with those of walks.py."""
+    world, reasons = World(case.nodes, case.history, case.abi), []
+    for number, (line, outcome) in enumerate(zip(lines, outcomes), 1):
+        if outcome == BAD:
+            continue
+        named = re.fullmatch("@([1-9][0-9]*) ([a-z]+)(?: (.*))?", line)
+        client, word, call = named.groups() if named else ("0", line, None)
+        wanted, reason = world.takes(line, int(client), word, call)
+        same(outcome, wanted, f"line {number}, {line!r:.99}")
+        reasons += [f"line {number}: {reason}"] if reason else []
+    _, _, error = program.ran("schedule", "-", *case.words(), "--explain", text=case.text())
+    same(error.split("\n")[:-1], [f"  {cut(line)}" for line in [*reasons, *world.left()]], "the reasons")
+
+
 def judge(program, case):
     lines, last = whole_and_last(case.text())
     outcomes = program.lines("schedule", "-", *case.words(), text=case.text())
@@ -214,6 +230,7 @@ def judge(program, case):
     follower = Follower()
     for line, outcome in zip(lines, outcomes):
         follower.takes(line, outcome)
+    judge_reasons(program, case, lines, outcomes)
     legal = [f"legal {len(follower.entries)}"]
     same(outcomes[-1:], legal, "the end of the outcomes")
     if follower.is_told:
