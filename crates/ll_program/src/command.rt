@@ -86,7 +86,7 @@ pub(crate) fn nodes_option<'a>(alloc: Global) -> Arg<'a>
         "nodes",
         "N",
         TREE_NODES as u64,
-        "How many nodes may live in the tree, the root counted",
+        "How many nodes may live in the tree, the root included",
     )
     .default_value("1024")
 }
@@ -107,7 +107,7 @@ fn history_option<'a>(alloc: Global) -> Arg<'a>
         "history",
         "H",
         HISTORY_ENTRIES as u64,
-        "How many calls the tree may answer in all, each a line of its history",
+        "How many calls the tree may answer, each an entry of its history",
     )
     .default_value("10000")
 }
@@ -120,7 +120,7 @@ pub(crate) fn policy_option<'a>(alloc: Global) -> Arg<'a>
         alloc,
         "policy",
         "FILE",
-        "A policy's file: nodes that are made first, layers of profiles, and the level",
+        "A policy's file: the nodes to create first, the level, and profiles of layers",
     )
 }
 
@@ -144,15 +144,16 @@ fn save_option<'a>(alloc: Global) -> Arg<'a>
         alloc,
         "save",
         "FILE",
-        "The file that the history is written to at the end",
+        "The file for the history, written at the end",
     )
 }
 
-// A command with this help text and these arguments.
+// A command with this help text, with this text at its end, and these arguments.
 pub(crate) fn command_of<'a>(
     alloc: Global,
     name: &'a str,
     about: &'a str,
+    after: &'a str,
     arguments: Vec<Arg<'a>>,
 ) -> Result<Command<'a>, AllocError>
     requires { AllByRecursion (λ argument. argument.global ≡ false) arguments.items }
@@ -160,7 +161,10 @@ pub(crate) fn command_of<'a>(
         ≡ fold with_rule (new_app name.entry.now) (map rule_of arguments.entry.items)) }
     ensures local { IfOk result (λ command. (fields_of command).has_globals ≡ false) }
 {
-    Command::new(alloc, name).about(about).args(arguments)
+    Command::new(alloc, name)
+        .about(about)
+        .after_help(after)
+        .args(arguments)
 }
 
 fn run_command<'a>(alloc: Global) -> Result<Command<'a>, AllocError>
@@ -176,7 +180,7 @@ fn run_command<'a>(alloc: Global) -> Result<Command<'a>, AllocError>
         nodes_option(alloc),
         abi_option(
             alloc,
-            "The level of Landlock's ABI, whose rights a ruleset may handle (3; not beside a policy)",
+            "The level of Landlock's ABI, whose rights a ruleset may handle (3; not with a policy)",
         ),
         policy_option(alloc),
         profile_option(alloc),
@@ -185,13 +189,15 @@ fn run_command<'a>(alloc: Global) -> Result<Command<'a>, AllocError>
         flag(
             alloc,
             "strict",
-            "End with status 3 at a line that says nothing, or whose layer or client is refused",
+            "Stop with status 3 at a bad line, a full history or no memory, or a refused layer or client",
         ),
     ]?;
     command_of(
         alloc,
         "run",
-        "Runs a script: a command a line in, a reply a line out",
+        "Runs a script: one command per line in, one reply per line out",
+        "Example: landtree run job.script --policy build.toml --profile build --strict{n}\
+         --explain, or a terminal, adds reasons to a fault",
         arguments,
     )
 }
@@ -210,6 +216,8 @@ fn audit_command<'a>(alloc: Global) -> Result<Command<'a>, AllocError>
         alloc,
         "audit",
         "Judges a saved history: how many entries are legal, or the first that isn't",
+        "Example: landtree audit job.history{n}\
+         --explain, or a terminal, adds reasons to a fault",
         arguments,
     )
 }
@@ -241,23 +249,17 @@ fn schedule_command<'a>(alloc: Global) -> Result<Command<'a>, AllocError>
             alloc,
             "picture",
             "OUT",
-            "The file that the schedule's picture is drawn into at the end, as SVG",
+            "The file for the schedule's picture, an SVG",
         ),
-        line_option(
-            alloc,
-            "from",
-            "The first line of the schedule that is drawn (1)"
-        ),
-        line_option(
-            alloc,
-            "to",
-            "The last line that is drawn (the schedule's last)"
-        ),
+        line_option(alloc, "from", "The first line to draw (1)"),
+        line_option(alloc, "to", "The last line to draw (the last)"),
     ]?;
     command_of(
         alloc,
         "schedule",
-        "Makes steps of many clients' calls: a step a line in, what came of it a line out",
+        "Makes steps of many clients' calls: one step per line in, one outcome per line out",
+        "Example: landtree schedule race.schedule --picture race.svg{n}\
+         --explain, or a terminal, adds reasons to a fault",
         arguments,
     )
 }
@@ -275,13 +277,15 @@ fn rights_command<'a>(alloc: Global) -> Result<Command<'a>, AllocError>
         flag(
             alloc,
             "layers",
-            "What each layer grants, and by the rule on which directory",
+            "Add a column for each layer: what it grants, by the rule on which directory",
         ),
     ]?;
     command_of(
         alloc,
         "rights",
-        "Tells which rights all layers of a profile grant on paths",
+        "Lists the rights that all layers of a profile grant on paths",
+        "Example: landtree rights --policy build.toml --profile build /src/main.c{n}\
+         --explain, or a terminal, adds reasons to a fault",
         arguments,
     )
 }
@@ -296,25 +300,19 @@ fn check_command<'a>(alloc: Global) -> Result<Command<'a>, AllocError>
         nodes_option(alloc),
         abi_option(
             alloc,
-            "The level of Landlock's ABI, whose rights a ruleset may handle (3; not beside a policy)",
+            "The level of Landlock's ABI, whose rights a ruleset may handle (3; not with a policy)",
         ),
         policy_option(alloc),
         profile_option(alloc),
-        flag(
-            alloc,
-            "quiet",
-            "Only how many tests pass, and how many fail"
-        ),
-        flag(
-            alloc,
-            "verbose",
-            "Each test and its reply, not only those that fail"
-        ),
+        flag(alloc, "quiet", "Print only how many tests pass and fail"),
+        flag(alloc, "verbose", "Print each test and its reply"),
     ]?;
     command_of(
         alloc,
         "check",
-        "Checks a tree's replies: a command and what must come a line, and how many were so",
+        "Tests a tree's replies: one command and its expected reply per line",
+        "Example: landtree check build.check --policy build.toml --profile build{n}\
+         --explain, or a terminal, adds reasons to a fault",
         arguments,
     )
 }
@@ -328,7 +326,7 @@ fn port_option<'a>(alloc: Global) -> Arg<'a>
         "port",
         "P",
         PORTS,
-        "The port that is listened at, on this machine alone",
+        "The port of 127.0.0.1 to listen at",
     )
     .required(true)
 }
@@ -342,7 +340,7 @@ fn workers_option<'a>(alloc: Global) -> Arg<'a>
         "workers",
         "W",
         WORKERS as u64,
-        "How many connections are served at a time",
+        "How many connections are served at the same time; others wait",
     )
     .default_value("4")
 }
@@ -370,7 +368,7 @@ fn idle_option<'a>(alloc: Global) -> Arg<'a>
         "idle",
         "S",
         IDLE_SECONDS,
-        "After how many seconds without a byte a connection is given up",
+        "Close a connection that sends nothing, or takes no reply, for S seconds (no limit)",
     )
 }
 
@@ -398,11 +396,15 @@ fn serve_command<'a>(alloc: Global) -> Result<Command<'a>, AllocError>
         connections_option(alloc),
         idle_option(alloc),
         room_option(alloc),
-        flag(alloc, "log", "Each connection and its end, a line"),
+        flag(
+            alloc,
+            "log",
+            "Print a line when a connection comes and when it goes"
+        ),
         nodes_option(alloc),
         abi_option(
             alloc,
-            "The level of Landlock's ABI, whose rights a ruleset may handle (3; not beside a policy)",
+            "The level of Landlock's ABI, whose rights a ruleset may handle (3; not with a policy)",
         ),
         policy_option(alloc),
         profile_option(alloc),
@@ -412,7 +414,9 @@ fn serve_command<'a>(alloc: Global) -> Result<Command<'a>, AllocError>
     command_of(
         alloc,
         "serve",
-        "Serves clients over TCP: a command a line in, a reply a line out, on one tree",
+        "Serves one tree over TCP: one command per line in, one reply per line out",
+        "Example: landtree serve --port 7000 --connections 8 --policy build.toml --profile build{n}\
+         --explain, or a terminal, adds reasons to a fault",
         arguments,
     )
 }
@@ -438,7 +442,7 @@ fn form_option<'a>(alloc: Global) -> Arg<'a>
         alloc,
         "as",
         "FORM",
-        "What is written: c, a C program that confines itself so, or json",
+        "c, a C program that confines itself, or json",
     )
     .required(true)
 }
@@ -455,7 +459,7 @@ fn export_command<'a>(alloc: Global) -> Result<Command<'a>, AllocError>
             alloc,
             "root",
             "DIR",
-            "The directory that stands for the policy's root, by its absolute path (/)"
+            "The directory that is the policy's root, an absolute path (/)"
         ),
         repeated(
             alloc,
@@ -466,7 +470,7 @@ fn export_command<'a>(alloc: Global) -> Result<Command<'a>, AllocError>
         flag(
             alloc,
             "follow",
-            "Follow links on rules' paths: whoever may write below the root decides what is granted",
+            "Follow symbolic links on rules' paths: whoever may write below the root decides what is granted",
         ),
         valued(
             alloc,
@@ -477,12 +481,12 @@ fn export_command<'a>(alloc: Global) -> Result<Command<'a>, AllocError>
         flag(
             alloc,
             "exact",
-            "Refuse to run where a rule's rights would be cut, since its path is no directory",
+            "Refuse to run if a rule's rights would be cut because its path isn't a directory",
         ),
         flag(
             alloc,
             "best-effort",
-            "Run with what the kernel can enforce, in place of refusing to run",
+            "Run with what the kernel can enforce, instead of refusing to run",
         ),
         repeated(
             alloc,
@@ -495,6 +499,8 @@ fn export_command<'a>(alloc: Global) -> Result<Command<'a>, AllocError>
         alloc,
         "export",
         "Writes a policy's profile as a C program or as JSON",
+        "Example: landtree export --policy build.toml --profile build --as c >build.c{n}\
+         --explain, or a terminal, adds reasons to a fault",
         arguments,
     )
 }
@@ -517,7 +523,9 @@ fn why_command<'a>(alloc: Global) -> Result<Command<'a>, AllocError>
     command_of(
         alloc,
         "why",
-        "Tells why a call was denied, or wasn't, and what would let it pass",
+        "Explains why a call was denied, or wasn't, and what would allow it",
+        "Example: landtree why --policy build.toml --profile build 'open rw /src/main.c'{n}\
+         --explain, or a terminal, adds reasons to a fault",
         arguments,
     )
 }

@@ -188,7 +188,7 @@ fn client_option<'a>(alloc: Global) -> Arg<'a>
         "client",
         "N",
         CLIENT_NUMBERS,
-        "The history's client that is learned for (the first that makes no nodes of a policy)",
+        "The history's client to learn for (the second that connects, or the only one)",
     )
 }
 
@@ -201,7 +201,7 @@ fn most_option<'a>(alloc: Global) -> Arg<'a>
         "most",
         "N",
         RULESET_INODES as u64,
-        "How many rules the layer may have (256)",
+        "The most rules that the layer may have (256)",
     )
 }
 
@@ -222,13 +222,13 @@ pub(crate) fn learn_command<'a>(alloc: Global) -> Result<Command<'a>, AllocError
             alloc,
             "never",
             "RIGHTS",
-            "Rights that no rule may hold, with commas between",
+            "Rights that no rule may grant, with commas between",
         ),
         repeated(
             alloc,
             "beneath",
             "DIR",
-            "A directory whose rule takes what is asked below it; may be repeated",
+            "A directory whose rule grants what is needed below it; may be repeated",
         ),
         most_option(alloc),
         nodes_option(alloc),
@@ -236,7 +236,9 @@ pub(crate) fn learn_command<'a>(alloc: Global) -> Result<Command<'a>, AllocError
     command_of(
         alloc,
         "learn",
-        "Writes the least profile under which calls get the replies that they got",
+        "Writes the least profile under which calls get the same replies",
+        "Example: landtree learn build.check --policy nodes.toml >build.toml{n}\
+         --explain, or a terminal, adds reasons to a fault",
         arguments,
     )
 }

@@ -11,9 +11,12 @@ pub returns : goal.returns
 returns c =
     let items = c.args.arguments.items in
     record {
-      app = IfOk-weaker c.args-2.result _ _ (λ made adds. app_after c.about.result made items (new_app c.args.name.now)
-          (ap app_of_fields c.about.ensures ∙ c.new.ensures.app) c.requires adds) c.args-2.ensures;
-      local = IfOk-weaker c.args-2.result _ _ (λ made adds. local_after c.about.result made items
-          (ap (λ (f : Command-F Command). f.has_globals) c.about.ensures ∙ c.new.ensures.local) c.requires adds)
+      app = IfOk-weaker c.args-2.result _ _ (λ made adds. app_after c.after_help.result made items
+          (new_app c.args.name.now)
+          (ap app_of_fields c.after_help.ensures ∙ ap app_of_fields c.about.ensures ∙ c.new.ensures.app)
+          c.requires adds) c.args-2.ensures;
+      local = IfOk-weaker c.args-2.result _ _ (λ made adds. local_after c.after_help.result made items
+          (ap (λ (f : Command-F Command). f.has_globals) c.after_help.ensures
+          ∙ ap (λ (f : Command-F Command). f.has_globals) c.about.ensures ∙ c.new.ensures.local) c.requires adds)
           c.args-2.ensures;
     }
