@@ -1,6 +1,12 @@
 pub mod HexDigits
 pub mod Firsts
 pub mod Keys
+pub mod Meanings
+pub mod Names
+pub mod Nearest
+pub mod Noted
+pub mod OwnFaults
+pub mod PlacedAll
 pub mod TablesRead
 pub mod Others
 pub mod PathTests

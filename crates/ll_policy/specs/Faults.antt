@@ -50,21 +50,27 @@ rule_faults t =
     ++ required as_str is_path BadPath (get_member (codes "path") t)
     ++ required as_str is_rights BadRights (get_member (codes "rights") t)
 
--- the layer's own keys, then its rules
-abbrev pub layer_faults : Members → List PolicyFault
-layer_faults t =
+-- the faults of a layer's own keys
+abbrev pub own_layer_faults : Members → List PolicyFault
+own_layer_faults t =
     other_keys (codes "handled" ∷ codes "rule" ∷ []) t
     ++ required as_str is_rights BadRights (get_member (codes "handled") t)
     ++ optional as_array are_tables WrongType (get_member (codes "rule") t)
-    ++ flat_map rule_faults (tables_at (codes "rule") t)
 
--- the profile's name, its own keys, then its layers
-abbrev pub profile_faults : List ℕ × Members → List PolicyFault
-profile_faults profile =
+-- the layer's own keys, then its rules
+abbrev pub layer_faults : Members → List PolicyFault
+layer_faults t = own_layer_faults t ++ flat_map rule_faults (tables_at (codes "rule") t)
+
+-- the faults of a profile's name and its own keys
+abbrev pub own_profile_faults : List ℕ × Members → List PolicyFault
+own_profile_faults profile =
     fault_if (not (is_name profile.0)) BadName
     ++ other_keys (codes "layer" ∷ []) profile.1
     ++ optional as_array are_tables WrongType (get_member (codes "layer") profile.1)
-    ++ flat_map layer_faults (tables_at (codes "layer") profile.1)
+
+-- the profile's name, its own keys, then its layers
+abbrev pub profile_faults : List ℕ × Members → List PolicyFault
+profile_faults profile = own_profile_faults profile ++ flat_map layer_faults (tables_at (codes "layer") profile.1)
 
 -- ---- the document
 

@@ -2,6 +2,8 @@ pub mod Answers
 pub mod Calls
 pub mod Faults
 pub mod KeptCalls
+pub mod Meaning
+pub mod Places
 pub mod Plan
 pub mod Table
 pub mod Value

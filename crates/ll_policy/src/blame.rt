@@ -1,252 +1,163 @@
-//! Finds a policy's first fault and what would be right there. No contract covers the words: they help the policy's
-//! author.
+//! Says what is wrong at a policy's fault, and what would be right there. No contract covers the words: they help the
+//! policy's author.
 
 use crate::fault::PolicyFault;
-use crate::node::Node;
-use crate::profile::{Layer, Rule};
-use crate::table::{named_tables, tables};
-use crate::values::{is_name, is_two, kind, level, path, rights, version};
+use crate::lines::line_of;
+use crate::meaning::rights_meant;
+use crate::place::{Place, PlacedFault};
+use ll_rights::{Access, Right};
 use std::alloc::{AllocError, Global};
-use std::fmt;
-use std::fmt::Display;
-use toml::{Table, Value};
+use toml::Value;
 
-/// A table of a policy. Tables of an array are counted from 1.
-#[derive(Clone, Copy)]
-enum Place<'a> {
-    Document,
-    Node(usize),
-    Profile(&'a str),
-    Layer(&'a str, usize),
-    Rule(&'a str, usize, usize),
-}
+/// The longest text of rights for which advice is looked for.
+const ADVISED: usize = 400;
 
-impl Display for Place<'_> {
-    fn fmt<W: fmt::Write>(&self, f: &mut fmt::Formatter<W>) -> fmt::Result {
-        match *self {
-            Place::Document => f.write_str("the policy"),
-            Place::Node(node) => write!(f, "node {node}"),
-            Place::Profile(name) => write!(f, "profile {name}"),
-            Place::Layer(name, layer) => write!(f, "profile {name}, layer {layer}"),
-            Place::Rule(name, layer, rule) => {
-                write!(f, "profile {name}, layer {layer}, rule {rule}")
-            }
-        }
-    }
-}
-
-/// The key of a table that is at fault; None if the table's own name is.
-#[derive(Clone, Copy)]
-struct Blame<'a> {
-    place: Place<'a>,
-    table: &'a Table,
-    key: Option<&'a str>,
-}
-
-// What the key's value must be.
-fn wanted(place: Place<'_>, key: &str) -> &'static str {
-    match (place, key) {
-        (_, "version") => "1 or 2 is expected",
-        (_, "abi") => "1, 2 or 3 is expected, and version 2",
-        (_, "path") => "the text of a path is expected: /, or / and a name again and again",
-        (_, "kind") => "a kind is expected: reg, dir, sym, fifo, sock, char or block",
-        (_, "data") => "bytes of a reg are expected: two digits of 0-9a-f each, at most 65536",
-        (_, "handled" | "rights") => "rights are expected, each once, rising, parted by commas",
-        (Place::Document, "node") => "[[node]] is expected, once for each node",
-        (Place::Document, "profile") => "[profile.NAME] is expected, once for each profile",
-        (Place::Profile(_), "layer") => "[[profile.NAME.layer]] is expected, once for each layer",
-        (Place::Layer(..), "rule") => "[[profile.NAME.layer.rule]] is expected, once for each rule",
-        (Place::Document, _) => "only version, abi (of version 2), node and profile may stand here",
-        (Place::Node(_), _) => "only path, kind and data may stand here",
-        (Place::Profile(_), _) => "only layer may stand here",
-        (Place::Layer(..), _) => "only handled and rule may stand here",
-        (Place::Rule(..), _) => "only path and rights may stand here",
-    }
-}
-
-impl Display for Blame<'_> {
-    fn fmt<W: fmt::Write>(&self, f: &mut fmt::Formatter<W>) -> fmt::Result {
-        let place = self.place;
-        let Some(key) = self.key else {
-            return write!(
-                f,
-                "{place}: a name is expected of 1 to 32 of a-z, 0-9 and -"
-            );
-        };
-        let wanted = wanted(place, key);
-        match self.table.get(key) {
-            None => write!(f, "{place}: {key} is missing: {wanted}"),
-            Some(Value::Array(_) | Value::Table(_)) => write!(f, "{place}: {key}: {wanted}"),
-            Some(value) => write!(f, "{place}: {key} = {value}: {wanted}"),
-        }
-    }
-}
-
-// The first key of the table that isn't one of these.
-fn other_key<'a>(table: &'a Table, known: &[&str]) -> Option<&'a str> {
-    for (key, _) in table.iter() {
-        if !known.iter().any(|name| key.as_str() == *name) {
-            return Some(key.as_str());
-        }
-    }
-    None
-}
-
-fn in_rule<'a>(alloc: Global, place: Place<'a>, table: &'a Table) -> Blame<'a> {
-    let key = match other_key(table, &["path", "rights"]) {
-        Some(key) => key,
-        None if path(alloc, table).is_err() => "path",
-        None => "rights",
-    };
-    Blame {
-        place,
-        table,
-        key: Some(key),
-    }
-}
-
-fn in_node<'a>(alloc: Global, place: Place<'a>, table: &'a Table) -> Blame<'a> {
-    let key = match other_key(table, &["path", "kind", "data"]) {
-        Some(key) => key,
-        None if path(alloc, table).is_err() => "path",
-        None if kind(table).is_err() => "kind",
-        None => "data",
-    };
-    Blame {
-        place,
-        table,
-        key: Some(key),
-    }
-}
-
-fn in_layer<'a>(alloc: Global, name: &'a str, layer: usize, table: &'a Table) -> Blame<'a> {
-    let mut blame = Blame {
-        place: Place::Layer(name, layer),
-        table,
-        key: Some("rule"),
-    };
-    if let Some(key) = other_key(table, &["handled", "rule"]) {
-        blame.key = Some(key);
-        return blame;
-    }
-    if rights(table, "handled").is_err() {
-        blame.key = Some("handled");
-        return blame;
-    }
-    let Ok(rules) = tables(table, "rule") else {
-        return blame;
-    };
-    let mut rule: usize = 0;
-    for value in rules {
-        rule = rule.saturating_add(1);
-        if let Some(table) = value.as_table()
-            && Rule::read(alloc, table).is_err()
-        {
-            return in_rule(alloc, Place::Rule(name, layer, rule), table);
-        }
-    }
-    blame
-}
-
-// The fault in the profile of this name, if any.
-fn in_profile<'a>(alloc: Global, name: &'a str, table: &'a Table) -> Option<Blame<'a>> {
-    let mut blame = Blame {
-        place: Place::Profile(name),
-        table,
-        key: None,
-    };
-    if !is_name(name) {
-        return Some(blame);
-    }
-    blame.key = Some("layer");
-    if let Some(key) = other_key(table, &["layer"]) {
-        blame.key = Some(key);
-        return Some(blame);
-    }
-    let Ok(layers) = tables(table, "layer") else {
-        return Some(blame);
-    };
-    let mut layer: usize = 0;
-    for value in layers {
-        layer = layer.saturating_add(1);
-        if let Some(table) = value.as_table()
-            && Layer::read(alloc, table).is_err()
-        {
-            return Some(in_layer(alloc, name, layer, table));
-        }
-    }
-    None
-}
-
-// The fault outside nodes and profiles, if any.
-fn at_top(table: &Table) -> Option<Blame<'_>> {
-    let known: &[&str] = if is_two(table) {
-        &["version", "abi", "node", "profile"]
-    } else {
-        &["version", "node", "profile"]
-    };
-    let key = match other_key(table, known) {
-        Some(key) => key,
-        None if version(table).is_err() => "version",
-        None if is_two(table) && level(table).is_err() => "abi",
-        None if tables(table, "node").is_err() => "node",
-        None if named_tables(table, "profile").is_err() => "profile",
-        None => return None,
-    };
-    Some(Blame {
-        place: Place::Document,
-        table,
-        key: Some(key),
-    })
-}
-
-fn in_nodes<'a>(alloc: Global, values: &'a [Value]) -> Option<Blame<'a>> {
-    let mut node: usize = 0;
-    for value in values {
-        node = node.saturating_add(1);
-        if let Some(table) = value.as_table()
-            && Node::read(alloc, table).is_err()
-        {
-            return Some(in_node(alloc, Place::Node(node), table));
-        }
-    }
-    None
-}
-
-fn in_profiles<'a>(alloc: Global, table: &'a Table) -> Option<Blame<'a>> {
-    for (name, value) in table.iter() {
-        if let Some(table) = value.as_table()
-            && let Some(blame) = in_profile(alloc, name.as_str(), table)
-        {
-            return Some(blame);
-        }
-    }
-    None
-}
-
-fn in_document(alloc: Global, table: &Table) -> Option<Blame<'_>> {
-    if let Some(blame) = at_top(table) {
-        return Some(blame);
-    }
-    if let Ok(nodes) = tables(table, "node")
-        && let Some(blame) = in_nodes(alloc, nodes)
-    {
-        return Some(blame);
-    }
-    match named_tables(table, "profile") {
-        Ok(Some(profiles)) => in_profiles(alloc, profiles),
+// What a value must be that has another type.
+fn type_wanted(key: &str) -> Option<&'static str> {
+    match key {
+        "version" => Some("1 or 2 is expected, without quotes"),
+        "abi" => Some("1, 2 or 3 is expected, without quotes"),
+        "path" => Some("a text is expected, as \"/usr/bin\""),
+        "kind" => Some("a text is expected, as \"reg\""),
+        "data" => Some("a text is expected, of two digits of 0-9a-f for each byte"),
+        "handled" | "rights" => Some("a text is expected, as \"execute,read_file\""),
         _ => None,
     }
 }
 
-/// Returns the text's first fault and what would be right there, in one line or more without a final line feed. None if
-/// it has no fault. Errors: memory ran out.
-pub fn first_fault(alloc: Global, text: &str) -> Result<Option<String>, AllocError> {
+// What a path must be, by the first reason why this text is none.
+fn path_wanted(path: &str) -> &'static str {
+    let names = path.strip_prefix("/").unwrap_or("");
+    if !path.bytes().all(|byte| matches!(byte, b'!'..=b'~')) {
+        "a path is expected, of printed ASCII characters without spaces"
+    } else if path.len() > 4095 {
+        "a path of at most 4095 bytes is expected"
+    } else if !path.starts_with('/') {
+        "a path is expected, which begins with /"
+    } else if names.split('/').any(|name| matches!(name, "" | "." | "..")) {
+        "a path is expected: / and a name again and again, which isn't . or .."
+    } else if names.split('/').any(|name| name.len() > 255) {
+        "names of at most 255 bytes are expected"
+    } else {
+        "a path of at most 64 names is expected"
+    }
+}
+
+// What may stand in a table of this place.
+fn keys_wanted(place: Place<'_>) -> &'static str {
+    match place {
+        Place::Document => "only version, abi (of version 2), node and profile may stand here",
+        Place::Node(_) => "only path, kind and data may stand here",
+        Place::Profile(_) => "only layer may stand here",
+        Place::Layer(..) => "only handled and rule may stand here",
+        Place::Rule(..) => "only path and rights may stand here",
+    }
+}
+
+// What the key's value must be.
+fn value_wanted(place: Place<'_>, key: &str) -> &'static str {
+    match (place, key) {
+        (_, "version") => "1 or 2 is expected",
+        (_, "abi") => "1, 2 or 3 is expected",
+        (_, "path") => "the text of a path is expected",
+        (_, "kind") => "a kind is expected: reg, dir, sym, fifo, sock, char or block",
+        (_, "data") => "bytes of a reg are expected: two digits of 0-9a-f each, at most 65536",
+        (_, "handled" | "rights") => "rights are expected, each once, rising, parted by commas",
+        (_, "node") => "[[node]] is expected, once for each node",
+        (_, "profile") => "[profile.NAME] is expected, once for each profile",
+        (_, "layer") => "[[profile.NAME.layer]] is expected, once for each layer",
+        (_, "rule") => "[[profile.NAME.layer.rule]] is expected, once for each rule",
+        (place, _) => keys_wanted(place),
+    }
+}
+
+// Returns what rights to write in place of a text that spells none.
+fn rights_advice(alloc: Global, text: &str) -> Result<String, AllocError> {
+    if text.is_empty() {
+        return String::from_str(alloc, "write none if there are none");
+    }
+    let strange = text.split(',').find(|word| Right::parse(word).is_none());
+    match (rights_meant(alloc, text)?, strange) {
+        (Some(set), Some(word)) => {
+            let meant = set.text(alloc)?;
+            format!(in alloc; "'{word}' is no right: write {meant}")
+        }
+        (Some(set), None) => {
+            let meant = set.text(alloc)?;
+            format!(in alloc; "write {meant}")
+        }
+        (None, word) => {
+            let word = word.unwrap_or("");
+            let all = Access::ALL.text(alloc)?;
+            format!(in alloc; "'{word}' is no right: there are {all}")
+        }
+    }
+}
+
+impl PlacedFault<'_> {
+    // The text at the key, if one is there.
+    fn value_text(&self, key: &str) -> Option<&str> {
+        match self.table.get(key) {
+            Some(value) => value.as_str(),
+            None => None,
+        }
+    }
+
+    fn wanted(&self, key: &str) -> &'static str {
+        match self.fault {
+            PolicyFault::UnknownKey if key == "abi" => "abi may stand only beside version = 2",
+            PolicyFault::UnknownKey => keys_wanted(self.place),
+            PolicyFault::WrongType => type_wanted(key).unwrap_or(value_wanted(self.place, key)),
+            PolicyFault::BadPath => path_wanted(self.value_text(key).unwrap_or("")),
+            _ => value_wanted(self.place, key),
+        }
+    }
+
+    // Returns the value's text, what it must be, and what to write.
+    fn key_text(&self, alloc: Global, key: &str) -> Result<String, AllocError> {
+        let wanted = self.wanted(key);
+        match self.table.get(key) {
+            None => format!(in alloc; "{key} is missing: {wanted}"),
+            Some(Value::Array(_) | Value::Table(_)) => format!(in alloc; "{key}: {wanted}"),
+            Some(value) => format!(in alloc; "{key} = {value}: {wanted}"),
+        }
+    }
+
+    // Returns the rights to write, if rights are at fault.
+    fn advice(&self, alloc: Global, key: &str) -> Result<Option<String>, AllocError> {
+        match (self.fault, self.value_text(key)) {
+            (PolicyFault::BadRights, Some(text)) if text.len() <= ADVISED => {
+                Ok(Some(rights_advice(alloc, text)?))
+            }
+            _ => Ok(None),
+        }
+    }
+
+    /// Returns where the fault is, and what would be right there, in one line or more without a final line feed.
+    /// Errors: memory ran out.
+    pub fn text(&self, alloc: Global) -> Result<String, AllocError> {
+        let place = self.place;
+        let Some(key) = self.key else {
+            return format!(in alloc; "{place}: a name is expected of 1 to 32 of a-z, 0-9 and -");
+        };
+        let told = self.key_text(alloc, key)?;
+        match self.advice(alloc, key)? {
+            Some(advice) => format!(in alloc; "{place}: {told}\n{advice}"),
+            None => format!(in alloc; "{place}: {told}"),
+        }
+    }
+
+    /// Returns the fault's line in the policy's text, from 1, if it is found.
+    pub fn line(&self, text: &str) -> Option<usize> {
+        line_of(text, self.place, self.key)
+    }
+}
+
+/// Returns why the text is no TOML, in one line or more without a final line feed. None if it is TOML. Errors: memory
+/// ran out.
+pub fn toml_trouble(alloc: Global, text: &str) -> Result<Option<String>, AllocError> {
     match toml::table_from_str(alloc, text) {
-        Ok(table) => match in_document(alloc, &table) {
-            Some(blame) => Ok(Some(format!(in alloc; "{blame}")?)),
-            None => Ok(None),
-        },
+        Ok(_) => Ok(None),
         Err(error) if error.is_memory() => Err(AllocError),
         Err(error) => {
             let told = format!(in alloc; "{error}")?;

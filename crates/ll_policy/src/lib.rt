@@ -2,16 +2,23 @@
 #![tactic(auto)]
 
 mod blame;
+mod document;
 mod fault;
+mod lines;
+mod meaning;
 mod node;
 mod path_text;
+mod place;
 mod policy;
 mod profile;
 mod table;
 mod values;
 
-pub use blame::first_fault;
+pub use blame::toml_trouble;
+pub use document::{policy_faults, read_document};
 pub use fault::PolicyFault;
+pub use meaning::{right_meant, rights_meant};
 pub use path_text::PathText;
+pub use place::{Place, PlacedFault};
 pub use policy::Policy;
 pub use profile::{Layer, Rule};

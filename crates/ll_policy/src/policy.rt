@@ -1,7 +1,7 @@
 //! Policies.
 
 ghost use Rattle.std.specs.Prelude.{bytes_eq, ⊤, ◌≡◌, ◌⊎◌, ◌≤◌, [], Some, pos, option_map, slice_get, OnOk, IfOk};
-ghost use Rattle.std.specs.Prelude.{IfErr, IfSome, false};
+ghost use Rattle.std.specs.Prelude.{IfErr, IfSome, false, map};
 ghost use Rattle.std.specs.List.{AllByRecursion};
 ghost use Rattle.std.specs.Map.{lookup};
 ghost use Rattle.toml.specs.Parse.{parse_document};
@@ -14,6 +14,7 @@ ghost use Rattle.ll_policy.specs.KeptCalls.{IsTop, calls_of_layers};
 ghost use Rattle.ll_policy.specs.Plan.{IsPlan, IsPlanOf, level_by};
 ghost use Rattle.ll_policy.specs.declared.fault.PolicyFault.TheVariants.{NoMemory};
 
+use crate::document::read_document;
 use crate::fault::PolicyFault;
 use crate::node::{Node, opening_calls, read_nodes};
 use crate::profile::{Layer, Profile, read_profiles};
@@ -120,10 +121,9 @@ impl Policy {
         ensures fault { IfErr result (λ fault. (fault ≡ NoMemory)
             ⊎ (slice_get (document_faults (parse_document text.now)) 0 ≡ Some fault)) }
     {
-        match toml::table_from_str(alloc, text) {
+        match read_document(alloc, text) {
             Ok(table) => Policy::read(alloc, &table),
-            Err(error) if error.is_memory() => Err(PolicyFault::NoMemory),
-            Err(_) => Err(PolicyFault::NotToml),
+            Err(fault) => Err(fault),
         }
     }
 
@@ -132,6 +132,18 @@ impl Policy {
         ensures { result ≡ self.now.abi }
     {
         self.abi
+    }
+
+    /// Returns the profiles' names. Errors: memory ran out.
+    pub fn names(&self, alloc: Global) -> Result<Vec<&str>, AllocError>
+        ensures { IfOk result (λ names. map (λ name. name.now) names.items
+            ≡ map (λ profile. profile.0) self.now.profiles) }
+    {
+        let mut names = Vec::new(alloc);
+        for profile in &self.profiles {
+            names.push(profile.name())?;
+        }
+        Ok(names)
     }
 
     /// Returns the calls that a client makes before all others, in order. None of them is a connect. Errors: memory ran

@@ -133,6 +133,12 @@ impl Profile {
         name == self.name.as_str()
     }
 
+    pub(crate) fn name(&self) -> &str
+        ensures { result.now ≡ string_bytes self.now.name }
+    {
+        self.name.as_str()
+    }
+
     /// The layers, the oldest first.
     pub(crate) fn layers(&self) -> &[Layer]
         ensures { result.now ≡ self.now.layers.items }

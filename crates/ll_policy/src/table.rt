@@ -9,7 +9,7 @@ ghost use Rattle.ll_policy.specs.Answers.{Checks};
 ghost use Rattle.ll_policy.specs.Faults.{required, optional, other_keys};
 ghost use Rattle.ll_policy.specs.KeptCalls.{named_in};
 ghost use Rattle.ll_policy.specs.Table.{has_other_key, are_tables, hold_tables, tables_of, named_tables, tables_at};
-ghost use Rattle.ll_policy.specs.Table.{named_tables_at};
+ghost use Rattle.ll_policy.specs.Table.{named_tables_at, text_at};
 ghost use Rattle.ll_policy.specs.declared.fault.PolicyFault.{PolicyFault};
 ghost use Rattle.ll_policy.specs.declared.fault.PolicyFault.TheVariants.{WrongType};
 
@@ -117,5 +117,38 @@ pub(crate) fn named_tables<'a>(
     match value.as_table() {
         Some(found) if hold_tables(found) => Ok(Some(found)),
         _ => Err(PolicyFault::WrongType),
+    }
+}
+
+/// The array at the key; empty if there is none.
+pub(crate) fn array_at<'a>(table: &'a Table, key: &str) -> &'a [Value]
+    ensures { tables_of (items_view result.now) ≡ tables_at key.now (table_view table.now) }
+{
+    let Some(value) = member(table, key) else {
+        return &[];
+    };
+    match value.as_array() {
+        Some(values) => values,
+        None => &[],
+    }
+}
+
+/// The table at the key, if there is one.
+pub(crate) fn named_at<'a>(table: &'a Table, key: &str) -> Option<&'a Table>
+    ensures { named_in result ≡ named_tables_at key.now (table_view table.now) }
+{
+    match member(table, key) {
+        Some(value) => value.as_table(),
+        None => None,
+    }
+}
+
+/// The text at the key; empty if there is none.
+pub(crate) fn text_at<'a>(table: &'a Table, key: &str) -> &'a str
+    ensures { result.now ≡ text_at key.now (table_view table.now) }
+{
+    match member(table, key) {
+        Some(value) => value.as_str().unwrap_or(""),
+        None => "",
     }
 }

@@ -18,7 +18,7 @@ ghost use Rattle.ll_policy.specs.declared.fault.PolicyFault.TheVariants.{BadRigh
 
 use crate::fault::PolicyFault;
 use crate::path_text::PathText;
-use crate::table::{member, required_text};
+use crate::table::{member, required_text, text_at};
 use hex::FromHexError;
 use ll_rights::{Access, Kind};
 use std::alloc::Global;
@@ -155,4 +155,21 @@ pub(crate) fn data(alloc: Global, table: &Table, kind: Kind) -> Result<Vec<u8>, 
             _ => unreachable!(),
         },
     }
+}
+
+/// Checks a node's bytes, without reading them.
+pub(crate) fn check_data(table: &Table) -> Result<(), PolicyFault>
+    ensures { Checks (optional as_str (is_data (text_at (codes "kind") (table_view table.now))) BadData
+        (get_member (codes "data") (table_view table.now))) (λ _. ⊤) result }
+{
+    let Some(value) = member(table, "data") else {
+        return Ok(());
+    };
+    let Some(digits) = value.as_str() else {
+        return Err(PolicyFault::WrongType);
+    };
+    if text_at(table, "kind") == "reg" && are_bytes(digits) {
+        return Ok(());
+    }
+    Err(PolicyFault::BadData)
 }
