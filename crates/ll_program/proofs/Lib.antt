@@ -9,3 +9,5 @@ pub mod Added
 pub mod DeniedWords
 pub mod Known
 pub mod Stopping
+pub mod Audited
+pub mod Kept

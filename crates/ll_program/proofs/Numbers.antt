@@ -17,6 +17,7 @@ use Rattle.ll_program.specs.Options.{CheckOrder, ExportOrder, RightsOrder, RunOr
 use Rattle.ll_program.specs.Options.{LearnOrder, WhyOrder}
 use Rattle.ll_program.specs.Options.{number_in}
 use Rattle.ll_program.specs.declared.denied.Denied.{Denied}
+use Rattle.ll_program.specs.declared.report.ReportForm.{ReportForm}
 use Rattle.ll_program.specs.declared.export.Form.{Form}
 
 -- the first text of an argument, and all of them, by its row
@@ -129,8 +130,8 @@ together_rights file name n told layers =
 
 -- the same of a check
 abbrev pub together_checked : Option (List Text) → Option ℕ → Option ℕ → Option Text → Option Text → Bool → Bool
-    → Option CheckOrder
-together_checked paths n level policy profile quiet verbose =
+    → Option ReportForm → Option CheckOrder
+together_checked paths n level policy profile quiet verbose form =
     option_and_then (λ p. option_map (λ k. record {
       files = p;
       nodes = k;
@@ -139,6 +140,7 @@ together_checked paths n level policy profile quiet verbose =
       profile = profile;
       quiet = quiet;
       verbose = verbose;
+      form = form;
     }) n) paths
 
 -- the same of a serving
@@ -214,10 +216,10 @@ pub whole_rights : (p q : Option Text) (n : Option ℕ) (told : List Text) (laye
     → is_some (together_rights p q n told layers) ≡ true
 whole_rights p q n told layers file name nodes e f g = rw (e, f, g) refl
 
-pub whole_check : (p : Option (List Text)) (n l : Option ℕ) (q r : Option Text) (s t : Bool) (paths : List Text)
-    (nodes : ℕ) → p ≡ Some paths → n ≡ Some nodes
-    → is_some (together_checked p n l q r s t) ≡ true
-whole_check p n l q r s t paths nodes e f = rw (e, f) refl
+pub whole_check : (p : Option (List Text)) (n l : Option ℕ) (q r : Option Text) (s t : Bool) (u : Option ReportForm)
+    (paths : List Text) (nodes : ℕ) → p ≡ Some paths → n ≡ Some nodes
+    → is_some (together_checked p n l q r s t u) ≡ true
+whole_check p n l q r s t u paths nodes e f = rw (e, f) refl
 
 pub whole_serve : (p w c b n m i l : Option ℕ) (log : Bool) (q r s : Option Text)
     (at threads all room nodes most : ℕ)

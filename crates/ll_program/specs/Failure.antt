@@ -1,6 +1,8 @@
 -- How the program ends if it fails. own
 use Rattle.std.specs.Prelude.{◌≡◌, ◌≢◌, ◌⊎◌, ◌++◌, ⊤, ℕ, Bool, true, List, Option, Some, None, Result, Ok, Err, codes}
-use Rattle.std.specs.Prelude.{IfSome, decimal}
+use Rattle.std.specs.Prelude.{IfSome, [], decimal, is_some, string_bytes}
+use Rattle.std.specs.Fmt.{with_newline}
+use Rattle.std.specs.Io.KnownBytes.{Appends}
 use Rattle.clap.specs.declared.error.kind.ErrorKind.{ErrorKind}
 use Rattle.clap.specs.declared.error.kind.ErrorKind.TheVariants.{DisplayHelp, DisplayVersion}
 use Rattle.clap.specs.declared.error.kind.ErrorKind.TheVariants as kind
@@ -16,10 +18,12 @@ use Rattle.ll_audit.specs.declared.auditing.FileAuditFault.{FileAuditFault}
 use Rattle.ll_audit.specs.declared.auditing.FileAuditFault.TheVariants as audit
 use Rattle.ll_audit.specs.declared.saving.SaveFault.{SaveFault}
 use Rattle.ll_audit.specs.declared.saving.SaveFault.TheVariants as saving
+use Rattle.ll_audit.specs.declared.verdict.Verdict.{Verdict}
 use Rattle.ll_audit.specs.declared.verdict.Verdict.TheVariants.{Legal, Illegal, BadLine}
-use Rattle.ll_audit.specs.Saved.{Judges}
+use Rattle.ll_audit.specs.Saved.{Judges, verdict_line}
 use Rattle.ll_wire.specs.Grammar.{reply_line}
 use Rattle.ll_wire.specs.Pieces.{pieces}
+use Rattle.ll_wire.specs.Writing.{AppendsFront}
 use Rattle.ll_program.specs.declared.failure.Failure.{Failure}
 use Rattle.ll_program.specs.declared.failure.Failure.TheVariants.{CommandLine, Policy, Opening, File, Output, Socket}
 use Rattle.ll_program.specs.declared.failure.Failure.TheVariants.{NoMemory}
@@ -91,6 +95,12 @@ line_of Output = Some (codes "landtree: output")
 line_of Socket = Some (codes "landtree: socket")
 line_of NoMemory = Some (codes "landtree: no memory")
 
+-- what is printed if the program ends like this: nothing, unless it fails or stops
+abbrev pub end_line : Result Conclusion Failure → Option (List ℕ)
+end_line (Ok (Stopped stopped)) = Some (string_bytes stopped.line)
+end_line (Ok conclusion) = Some []
+end_line (Err failure) = with_newline (line_of failure)
+
 -- where a strict run of this script ended, and the line of the reply
 abbrev pub stop_line : List ℕ → Stop → List ℕ
 stop_line script (AtLine line reply) = script ++ (codes ":" ++ decimal line ++ codes ": ") ++ reply_line reply
@@ -102,42 +112,40 @@ IsOfSaving File = ⊤
 IsOfSaving NoMemory = ⊤
 IsOfSaving failure = ⊥
 
--- an audit, or a schedule, fails by its file or its picture's, by its output, or by memory
+-- a schedule fails by its file or its picture's, by its output, or by memory
 abbrev pub IsOfDevices : Failure → Type 0
 IsOfDevices File = ⊤
 IsOfDevices Output = ⊤
 IsOfDevices NoMemory = ⊤
 IsOfDevices failure = ⊥
 
--- an audit ends with the verdict on the bytes of its file, if these are known
-abbrev pub EndsAudit : Option (List ℕ) → Result Conclusion Failure → Type 0
-EndsAudit text (Ok Done) = ⊥
-EndsAudit text (Ok (Stopped stopped)) = ⊥
-EndsAudit text (Ok (Judged verdict)) = IfSome text (λ bytes. Judges (pieces bytes) verdict)
-EndsAudit text (Ok (Checked end)) = ⊥
-EndsAudit text (Err failure) = IsOfDevices failure
+-- Why an audit has no verdict on these bytes. Only if the output fails, anything is written: a prefix of the verdict's
+-- line
+abbrev pub FailsAudit : Option (List ℕ) → (out out' : Option (List ℕ)) → Failure → Type 0
+FailsAudit text out out' CommandLine = ⊥
+FailsAudit text out out' (Policy fault) = ⊥
+FailsAudit text out out' Opening = ⊥
+FailsAudit text out out' File = out' ≡ out
+FailsAudit text out out' Output =
+    (verdict : Verdict) × IfSome text (λ bytes. Judges (pieces bytes) verdict)
+    × AppendsFront out out' (verdict_line verdict)
+FailsAudit text out out' Socket = ⊥
+FailsAudit text out out' NoMemory = out' ≡ out
 
-abbrev pub EndsSchedule : Result Conclusion Failure → Type 0
-EndsSchedule (Ok Done) = ⊤
-EndsSchedule (Ok (Stopped stopped)) = ⊥
-EndsSchedule (Ok (Judged verdict)) = ⊥
-EndsSchedule (Ok (Checked end)) = ⊥
-EndsSchedule (Err failure) = IsOfDevices failure
+-- an audit writes the verdict on the bytes of its file, if these are known, and ends with it
+abbrev pub EndsAudit : Option (List ℕ) → (out out' : Option (List ℕ)) → Result Conclusion Failure → Type 0
+EndsAudit text out out' (Ok Done) = ⊥
+EndsAudit text out out' (Ok (Stopped stopped)) = ⊥
+EndsAudit text out out' (Ok (Judged verdict)) =
+    IfSome text (λ bytes. Judges (pieces bytes) verdict) × Appends out out' (verdict_line verdict)
+EndsAudit text out out' (Ok (Checked end)) = ⊥
+EndsAudit text out out' (Err failure) = FailsAudit text out out' failure
 
--- Serving ends well, or with a failure. It ends with a wrong command line only if a profile is asked for that doesn't
--- exist
-abbrev pub EndsServe : Option (List ℕ) → Result Conclusion Failure → Type 0
-EndsServe profile (Ok Done) = ⊤
-EndsServe profile (Ok (Stopped stopped)) = ⊥
-EndsServe profile (Ok (Judged verdict)) = ⊥
-EndsServe profile (Ok (Checked end)) = ⊥
-EndsServe profile (Err CommandLine) = profile ≢ None
-EndsServe profile (Err (Policy fault)) = ⊤
-EndsServe profile (Err Opening) = ⊤
-EndsServe profile (Err File) = ⊤
-EndsServe profile (Err Output) = ⊤
-EndsServe profile (Err Socket) = ⊤
-EndsServe profile (Err NoMemory) = ⊤
+-- why nothing is begun: the file that is to be written is one that is used otherwise, or memory runs out
+abbrev pub IsOfBeginning : (file : Option (List ℕ)) → Failure → Type 0
+IsOfBeginning file File = is_some file ≡ true
+IsOfBeginning file NoMemory = ⊤
+IsOfBeginning file failure = ⊥
 
 -- why a profile isn't exported, if nothing is run: any failure but a refused call and a listener's
 abbrev pub IsOfExport : Failure → Type 0

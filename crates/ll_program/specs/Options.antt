@@ -1,7 +1,7 @@
 -- The words of the command line, as clap matches them. own
 use Rattle.std.specs.Prelude.{bytes_eq, ◌==◌, ◌≡◌, ◌⊎◌, ℕ, List, [], ◌∷◌, Option, Some, None, is_some, option_and_then}
 use Rattle.std.specs.Prelude.{option_map, codes, Bool, true, false, not, map, unwrap_or, ◌&&◌, if◌then◌else◌, is_none}
-use Rattle.std.specs.Prelude.{length, nat_eq, nat_le}
+use Rattle.std.specs.Prelude.{length, nat_eq, nat_le, ◌||◌}
 use Rattle.std.specs.List.{list_all, slice_split, starts_with}
 use Rattle.std.specs.Option.{option_map_or}
 use Rattle.std.specs.Str.Parse.{digits_value, without_leading_plus}
@@ -15,6 +15,9 @@ use Rattle.ll_program.specs.declared.rights.RightsOptions.{RightsOptions}
 use Rattle.ll_program.specs.declared.options.CheckOptions.{CheckOptions}
 use Rattle.ll_program.specs.declared.serve.ServeOptions.{ServeOptions}
 use Rattle.ll_program.specs.declared.denied.Denied.{Denied}
+use Rattle.ll_program.specs.declared.report.ReportForm.{ReportForm}
+use Rattle.ll_program.specs.declared.report.ReportForm.TheVariants.{Tap, Junit}
+use Rattle.ll_program.specs.declared.report.ReportForm.TheVariants as reports
 use Rattle.ll_program.specs.declared.export.Form.{Form}
 use Rattle.ll_program.specs.declared.export.Form.TheVariants.{C, Json}
 use Rattle.ll_program.specs.declared.export.ExportOptions.{ExportOptions}
@@ -69,6 +72,7 @@ pub record CheckOrder : Type 0 where
   pub profile : Option Text
   pub quiet : Bool
   pub verbose : Bool
+  pub form : Option ReportForm
 
 pub record ServeOrder : Type 0 where
   pub port : ℕ
@@ -179,6 +183,7 @@ checked_in o =
       profile = text o.profile;
       quiet = o.quiet;
       verbose = o.verbose;
+      form = o.form;
     }
 
 abbrev pub served_in : ServeOptions → ServeOrder
@@ -336,6 +341,19 @@ rights_order rows =
     (first_of (codes "profile") rows))
     (first_of (codes "policy") rows)
 
+-- the form of reports with this name
+abbrev pub report_form_of : Text → Option ReportForm
+report_form_of word =
+    if bytes_eq word (codes "tap") then Some Tap
+    else if bytes_eq word (codes "junit") then Some Junit
+    else if bytes_eq word (codes "json") then Some reports.Json
+    else None
+
+-- the form with this name; without one, text
+abbrev pub report_form_by : Option Text → Option ReportForm
+report_form_by (Some word) = report_form_of word
+report_form_by None = Some reports.Text
+
 abbrev pub check_order : List Row → Option CheckOrder
 check_order rows =
     option_and_then (λ paths. option_map (λ n. record {
@@ -346,6 +364,7 @@ check_order rows =
       profile = first_of (codes "profile") rows;
       quiet = is_set (codes "quiet") rows;
       verbose = is_set (codes "verbose") rows;
+      form = report_form_by (first_of (codes "as") rows);
     })
     (number_of (codes "nodes") node_numbers rows))
     (all_of (codes "FILE") rows)
@@ -492,9 +511,14 @@ may_be_drawn None from to = is_none from && is_none to
 abbrev pub fits_schedule : ScheduleOrder → Bool
 fits_schedule o = not (names_input o.picture (file_of o.file)) && may_be_drawn o.picture o.from o.to
 
--- a check isn't both quiet and verbose
+-- whether a report's form goes with these wishes: only a text has fewer tests or more
+abbrev pub fits_report : Option ReportForm → (quiet verbose : Bool) → Bool
+fits_report None quiet verbose = false
+fits_report (Some reports.Text) quiet verbose = not (quiet && verbose)
+fits_report (Some form) quiet verbose = not (quiet || verbose)
+
 abbrev pub fits_check : CheckOrder → Bool
-fits_check o = go_together o.level o.policy o.profile && not (o.quiet && o.verbose)
+fits_check o = go_together o.level o.policy o.profile && fits_report o.form o.quiet o.verbose
 
 abbrev pub fits_serve : ServeOrder → Bool
 fits_serve o = go_together o.level o.policy o.profile && not (names_input o.save o.policy)

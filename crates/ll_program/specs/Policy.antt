@@ -1,5 +1,5 @@
 -- What the words and the policy's file set up. own
-use Rattle.std.specs.Prelude.{bytes_eq, ◌≡◌, ◌≢◌, ◌⊎◌, ⊤, ℕ, true, List, [], Option, Some, None, option_map, slice_get}
+use Rattle.std.specs.Prelude.{bytes_eq, ◌≡◌, ◌⊎◌, ⊤, ℕ, Bool, true, List, [], Option, Some, None, option_map, slice_get}
 use Rattle.std.specs.Prelude.{false, unwrap_or, is_some, IfSome, string_bytes, Result, Ok, Err}
 use Rattle.std.specs.Io.KnownBytes.{Appends}
 use Rattle.std.specs.Map.{lookup}
@@ -20,11 +20,11 @@ use Rattle.ll_session.specs.declared.setup.Setup.{Setup}
 use Rattle.ll_session.specs.declared.stop.Stop.{Stop}
 use Rattle.ll_program.specs.declared.conclusion.Conclusion.{Conclusion}
 use Rattle.ll_program.specs.declared.conclusion.Conclusion.TheVariants.{Checked, Done, Judged, Stopped}
-use Rattle.ll_program.specs.Failure.{failure_of, IsOfSaving, stop_line}
+use Rattle.ll_program.specs.Failure.{failure_of, IsOfBeginning, IsOfSaving, stop_line}
 use Rattle.ll_program.specs.Sources.{named, text_in}
 use Rattle.ll_wire.specs.declared.header.Header.{Header}
 use Rattle.ll_wire.specs.declared.header.Version.TheVariants.{Three}
-use Rattle.ll_session.specs.Run.{MayEnd, RunsAs}
+use Rattle.ll_session.specs.Run.{BeginsBy, MayEnd, RunsAs}
 use Rattle.ll_wire.specs.Transcript.{Writes}
 use Rattle.ll_audit.specs.Saved.{saved_text}
 use Rattle.ll_program.specs.Options.{RunOrder, TreeOrder, tree_of}
@@ -88,6 +88,12 @@ IsConcluded script (Some stop) Done = ⊥
 IsConcluded script (Some stop) (Judged verdict) = ⊥
 IsConcluded script (Some stop) (Checked end) = ⊥
 
+-- what a run with this setup, which was made to its end, has read of the script and written
+abbrev pub HasRun : (strict : Bool) → Setup → (script script' out out' : Option (List ℕ)) → Option Stop → List Entry
+    → Type 0
+HasRun strict setup script script' out out' stop entries =
+    IfSome script (λ input. Writes out out' (λ text. RunsAs strict setup input script' text stop entries))
+
 -- A run with the setup asked for, if the policy's file has this text. What was read of the script and written, and what
 -- is saved, are of one history, which is legal in the setup's tree. It is concluded by what ended it. Only a strict run
 -- ends before its script
@@ -96,27 +102,39 @@ abbrev pub IsRun : RunOrder → List ℕ → Conclusion → (script script' out 
 IsRun order text end script script' out out' blank file file' =
     (setup : Setup) × (entries : List Entry) × (stop : Option Stop) × IsSetup (tree_of order) text setup
     × IsLegal (start setup.rules setup.nodes) entries
-    × IfSome script (λ input. Writes out out' (λ written.
-    RunsAs order.strict setup input script' written stop entries))
+    × HasRun order.strict setup script script' out out' stop entries
     × (order.strict ≡ false → stop ≡ None)
     × IsSaved order.save setup entries blank file file' × IsConcluded order.script stop end
 
--- Why nothing is run to its end and saved: a policy is named, and gives no setup; or a fault ends the run with the
--- setup; or a history that is to be saved can't be
-abbrev pub MayFail : RunOrder → List ℕ → Failure → Type 0
-MayFail order text failure =
-    ((is_some order.policy ≡ true) × Lacks (tree_of order) text failure)
-    ⊎ ((setup : Setup) × IsSetup (tree_of order) text setup × (fault : RunFault)
-    × MayEnd setup fault × (failure ≡ failure_of fault))
-    ⊎ ((is_some order.save ≡ true) × IsOfSaving failure)
+-- what a run that this fault ended has written: a prefix of the lines for some first pieces
+abbrev pub HasBegun : (strict : Bool) → Setup → (script out out' : Option (List ℕ)) → RunFault → Type 0
+HasBegun strict setup script out out' fault =
+    IfSome script (λ input. Writes out out' (BeginsBy strict setup fault input))
 
--- How a run ends, if the files have these texts. It is done, or stopped, for the script that is named. Or it fails:
--- with a wrong command line only if a profile is asked for that doesn't exist, and never by a listener
-abbrev pub EndsRun : (texts : Option (List ℕ) → Option (List ℕ)) → RunOrder → Result Conclusion Failure → Type 0
-EndsRun texts order (Ok end) =
-    (text : List ℕ) × (script' out out' blank file file' : Option (List ℕ))
+-- why a run that was made to its end isn't kept: no memory for the line on what ended it, or its history can't be saved
+abbrev pub IsUnkept : RunOrder → Option Stop → Failure → Type 0
+IsUnkept order stop failure =
+    ((is_some stop ≡ true) × (failure ≡ NoMemory)) ⊎ ((is_some order.save ≡ true) × IsOfSaving failure)
+
+-- Why nothing is run to its end and saved, and what is written then. A policy is named, and gives no setup: nothing. A
+-- fault ends the run with the setup: a prefix of its lines. The run isn't kept: all of them
+abbrev pub MayFail : RunOrder → List ℕ → (script script' out out' : Option (List ℕ)) → Failure → Type 0
+MayFail order text script script' out out' failure =
+    ((is_some order.policy ≡ true) × Lacks (tree_of order) text failure × (out' ≡ out))
+    ⊎ ((setup : Setup) × IsSetup (tree_of order) text setup × (fault : RunFault) × MayEnd setup fault
+    × (failure ≡ failure_of fault) × HasBegun order.strict setup script out out' fault)
+    ⊎ ((setup : Setup) × IsSetup (tree_of order) text setup × (stop : Option Stop) × (entries : List Entry)
+    × HasRun order.strict setup script script' out out' stop entries × IsUnkept order stop failure)
+
+-- How a run ends, if the files have these texts. It is done, or stopped, for the script that is named. Or it fails as
+-- above, or before it begins, and then nothing is written
+abbrev pub EndsRun : (texts : Option (List ℕ) → Option (List ℕ)) → RunOrder → (out out' : Option (List ℕ))
+    → Result Conclusion Failure → Type 0
+EndsRun texts order out out' (Ok end) =
+    (text : List ℕ) × (script' blank file file' : Option (List ℕ))
     × IfSome (text_in texts order.policy) (λ told. text ≡ told)
     × IsRun order text end (texts (named order.script)) script' out out' blank file file'
-EndsRun texts order (Err CommandLine) = order.profile ≢ None
-EndsRun texts order (Err Socket) = ⊥
-EndsRun texts order (Err failure) = ⊤
+EndsRun texts order out out' (Err failure) =
+    (IsOfBeginning order.save failure × (out' ≡ out))
+    ⊎ ((text : List ℕ) × (script' : Option (List ℕ)) × IfSome (text_in texts order.policy) (λ told. text ≡ told)
+    × MayFail order text (texts (named order.script)) script' out out' failure)

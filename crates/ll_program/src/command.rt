@@ -285,7 +285,7 @@ fn rights_command<'a>(alloc: Global) -> Result<Command<'a>, AllocError>
         "rights",
         "Lists the rights that all layers of a profile grant on paths",
         "Example: landtree rights --policy build.toml --profile build /src/main.c{n}\
-         --explain, or a terminal, adds reasons to a fault",
+         --terse leaves out the reasons of a fault",
         arguments,
     )
 }
@@ -306,13 +306,19 @@ fn check_command<'a>(alloc: Global) -> Result<Command<'a>, AllocError>
         profile_option(alloc),
         flag(alloc, "quiet", "Print only how many tests pass and fail"),
         flag(alloc, "verbose", "Print each test and its reply"),
+        valued(
+            alloc,
+            "as",
+            "FORM",
+            "Print all tests for another program: tap, junit or json",
+        ),
     ]?;
     command_of(
         alloc,
         "check",
         "Tests a tree's replies: one command and its expected reply per line",
         "Example: landtree check build.check --policy build.toml --profile build{n}\
-         --explain, or a terminal, adds reasons to a fault",
+         --terse leaves out the reasons of a fault",
         arguments,
     )
 }
@@ -500,7 +506,7 @@ fn export_command<'a>(alloc: Global) -> Result<Command<'a>, AllocError>
         "export",
         "Writes a policy's profile as a C program or as JSON",
         "Example: landtree export --policy build.toml --profile build --as c >build.c{n}\
-         --explain, or a terminal, adds reasons to a fault",
+         --terse leaves out the reasons of a fault",
         arguments,
     )
 }
@@ -525,7 +531,7 @@ fn why_command<'a>(alloc: Global) -> Result<Command<'a>, AllocError>
         "why",
         "Explains why a call was denied, or wasn't, and what would allow it",
         "Example: landtree why --policy build.toml --profile build 'open rw /src/main.c'{n}\
-         --explain, or a terminal, adds reasons to a fault",
+         --terse leaves out the reasons of a fault",
         arguments,
     )
 }

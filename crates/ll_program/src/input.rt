@@ -1,6 +1,7 @@
 //! Scripts, policies, histories and schedules: files, or standard input.
 
-ghost use Rattle.std.specs.Prelude.{◌≡◌, ℕ, List, Option, None, IfOk, option_map};
+ghost use Rattle.std.specs.Prelude.{◌≡◌, ◌++◌, ℕ, List, Option, None, IfOk, IfSome, option_map};
+ghost use Rattle.std.specs.Io.KnownBytes.{Consumes};
 ghost use Rattle.ll_program.specs.Sources.{Starts, named};
 
 use either::Either;
@@ -56,20 +57,32 @@ pub struct Late<'a, S: Sources> {
     kept: Option<Vec<u8>>,
 }
 
-// The bytes left, if they are known: before the first read, all of them.
+// Before the first read, the whole text is left.
 impl<'a, S: Sources> Model for Late<'a, S> {
-    ghost use Rattle.std.specs.Prelude.{ℕ, List, Option, option_map};
+    ghost use Rattle.std.specs.Prelude.{ℕ, List, Option, option_map, IfSome};
+    ghost use Rattle.std.specs.Io.KnownBytes.{Consumes};
     ghost use Rattle.std.specs.Option.{option_map_or};
+    ghost use Rattle.ll_program.specs.Sources.{LateBytes};
 
-    ghost Value = { Option (List ℕ) };
+    ghost Value = { LateBytes };
 
-    ghost view = { λ late. option_map_or S.Input.remaining late.input
-        (S.texts late.sources.now (option_map (λ name. name.now) late.file)) };
+    ghost view = { λ late. record {
+      text = S.texts late.sources.now (option_map (λ name. name.now) late.file);
+      left = option_map_or S.Input.remaining late.input
+          (S.texts late.sources.now (option_map (λ name. name.now) late.file));
+      kept = option_map (λ kept. kept.items) late.kept;
+    } };
+
+    ghost invariant = { λ late. IfSome late.kept (λ kept.
+        Consumes (S.texts late.sources.now (option_map (λ name. name.now) late.file))
+        (option_map_or S.Input.remaining late.input
+        (S.texts late.sources.now (option_map (λ name. name.now) late.file))) kept.items) };
 }
 
 impl<'a, S: Sources> Late<'a, S> {
     pub fn new(sources: &'a S, file: Option<&'a str>) -> Self
-        ensures { result ≡ S.texts sources.now (option_map (λ name. name.now) file.entry) }
+        ensures text { result.text ≡ S.texts sources.now (option_map (λ name. name.now) file.entry) }
+        ensures left { result.left ≡ S.texts sources.now (option_map (λ name. name.now) file.entry) }
     {
         Late {
             sources,
@@ -82,7 +95,8 @@ impl<'a, S: Sources> Late<'a, S> {
 
     /// Returns a source that keeps what is read from it, if `keeps` holds.
     pub fn keeping(alloc: Global, sources: &'a S, file: Option<&'a str>, keeps: bool) -> Self
-        ensures { result ≡ S.texts sources.now (option_map (λ name. name.now) file.entry) }
+        ensures text { result.text ≡ S.texts sources.now (option_map (λ name. name.now) file.entry) }
+        ensures left { result.left ≡ S.texts sources.now (option_map (λ name. name.now) file.entry) }
     {
         let kept = if keeps { Some(Vec::new(alloc)) } else { None };
         Late {
@@ -109,8 +123,11 @@ impl<'a, S: Sources> Late<'a, S> {
         self.trouble
     }
 
-    /// Returns what was read, if a read has opened it, it is kept, and there was memory for it.
-    pub fn text(&self) -> Option<&[u8]> {
+    /// Returns what was read, if a read has opened it, it is kept, and there was memory for it. With what is left, that
+    /// is the file's text.
+    pub fn text(&self) -> Option<&[u8]>
+        ensures { IfSome result (λ kept. Consumes self.now.text self.now.left kept.now) }
+    {
         match &self.kept {
             Some(text) if self.is_open() => Some(text.as_slice()),
             _ => None,
@@ -119,7 +136,10 @@ impl<'a, S: Sources> Late<'a, S> {
 }
 
 // Appends these bytes to those that are kept. If memory runs out, nothing is kept any longer.
-fn keep(kept: &mut Option<Vec<u8>>, bytes: &[u8]) {
+fn keep(kept: &mut Option<Vec<u8>>, bytes: &[u8])
+    ensures more { IfSome kept.new (λ all. IfSome kept.old (λ before. all.items ≡ before.items ++ bytes.now)) }
+    ensures none { kept.old ≡ None → kept.new ≡ None }
+{
     let is_kept = match kept {
         Some(text) => text.extend_from_slice(bytes).is_ok(),
         None => true,
@@ -130,7 +150,7 @@ fn keep(kept: &mut Option<Vec<u8>>, bytes: &[u8]) {
 }
 
 impl<S: Sources> Read for Late<'_, S> {
-    ghost remaining = { λ late. late };
+    ghost remaining = { λ late. late.left };
 
     fn read(&mut self, buf: &mut [u8]) -> io::Result<usize> {
         let told = match &mut self.input {

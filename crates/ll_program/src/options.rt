@@ -7,6 +7,7 @@ use crate::command::landtree_command;
 use crate::export::ExportOptions;
 use crate::inputs::{file_of, names_input};
 use crate::learn::LearnOptions;
+use crate::report::ReportForm;
 use crate::rights::RightsOptions;
 use crate::serve::ServeOptions;
 use crate::values::number_of;
@@ -167,13 +168,15 @@ pub struct CheckOptions<'a> {
     pub profile: Option<&'a str>,
     pub quiet: bool,
     pub verbose: bool,
+    /// The form of the report; None if its word names none.
+    pub form: Option<ReportForm>,
     ghost some: { 1 ≤ nodes },
     ghost most: { nodes ≤ TREE_NODES },
 }
 
 impl<'a> CheckOptions<'a> {
     ghost use Rattle.clap.specs.Words.{found_of, rows_of};
-    ghost use Rattle.ll_program.specs.Options.{check_order, checked_in, fits_check, is_set};
+    ghost use Rattle.ll_program.specs.Options.{check_order, checked_in, fits_check, fits_report, is_set};
 
     // Whether the flag is among clap's matches.
     #[tactic(auto, using(crate::proofs::Numbers::text_told))]
@@ -206,6 +209,7 @@ impl<'a> CheckOptions<'a> {
         let profile = check.get_str("profile");
         let quiet = CheckOptions::is_set(check, "quiet");
         let verbose = CheckOptions::is_set(check, "verbose");
+        let form = ReportForm::by_word(check.get_str("as"));
         Ok(Some(CheckOptions {
             files,
             nodes: nodes as usize,
@@ -214,11 +218,23 @@ impl<'a> CheckOptions<'a> {
             profile,
             quiet,
             verbose,
+            form,
         }))
     }
 
-    /// Reports whether the options fit together: no level with a policy, a profile with a policy, and not both quiet
-    /// and verbose.
+    // Whether the form of the report is known and goes with fewer or more tests.
+    fn report_fits(&self) -> bool
+        ensures { result ≡ fits_report self.now.form self.now.quiet self.now.verbose }
+    {
+        match self.form {
+            Some(ReportForm::Text) => !(self.quiet && self.verbose),
+            Some(_) => !(self.quiet || self.verbose),
+            None => false,
+        }
+    }
+
+    /// Reports whether the options fit together: no level with a policy, a profile with a policy, a known form, and not
+    /// both quiet and verbose, which only a text may be.
     pub fn fit(&self) -> bool
         ensures { result ≡ fits_check (checked_in self.now) }
     {
@@ -227,7 +243,7 @@ impl<'a> CheckOptions<'a> {
         } else {
             self.profile.is_none()
         };
-        is_set_up && !(self.quiet && self.verbose)
+        is_set_up && self.report_fits()
     }
 }
 

@@ -6,18 +6,19 @@ ghost use Rattle.std.specs.Io.KnownBytes.{Appends};
 ghost use Rattle.std.specs.List.{All};
 ghost use Rattle.ll_rights.specs.declared.limits.TheConstants.{TREE_NODES};
 ghost use Rattle.ll_wire.specs.Devices.{IsWhole};
-ghost use Rattle.ll_wire.specs.Transcript.{Writes};
 ghost use Rattle.ll_program.specs.Options.{order_in};
+ghost use Rattle.ll_audit.specs.declared.auditing.FileAuditFault.{FileAuditFault};
+ghost use Rattle.ll_audit.specs.Faults.{BlamesAudit, IsReading};
 ghost use Rattle.ll_audit.specs.Saved.{Judges, saved_text, verdict_line};
 ghost use Rattle.ll_session.specs.declared.fault.RunFault.{RunFault};
 ghost use Rattle.ll_session.specs.declared.setup.Setup.{Setup};
-ghost use Rattle.ll_session.specs.Run.{EndsBy, MayEnd, RunsAs};
+ghost use Rattle.ll_session.specs.Run.{EndsBy, MayEnd};
 ghost use Rattle.ll_wire.specs.Entries.{IsEntry, header_tokens};
 ghost use Rattle.ll_wire.specs.Grammar.{line_of};
 ghost use Rattle.ll_wire.specs.Pieces.{pieces};
 ghost use Rattle.ll_program.specs.declared.failure.Failure.{Failure};
-ghost use Rattle.ll_program.specs.Failure.{failure_of, IsOfDevices, IsOfSaving};
-ghost use Rattle.ll_program.specs.Policy.{header_of, IsConcluded, IsRun, IsSaved, MayFail};
+ghost use Rattle.ll_program.specs.Failure.{FailsAudit, failure_at, failure_of, IsOfSaving};
+ghost use Rattle.ll_program.specs.Policy.{HasBegun, HasRun, header_of, IsConcluded, IsRun, IsSaved, MayFail};
 ghost use Rattle.ll_seq.specs.History.{IsLegal};
 ghost use Rattle.ll_seq.specs.State.{start};
 
@@ -26,7 +27,7 @@ use crate::conclusion::Conclusion;
 use crate::failure::Failure;
 use crate::policy::setup_of;
 use crate::stopped::Stopped;
-use ll_audit::{Progress, Verdict, record_in, run_audit, save_in};
+use ll_audit::{Progress, Verdict, record_in, run_audit_over, save_in};
 use ll_seq::History;
 use ll_session::{Chronicle, Manner, NoKeeper, Run, Setup, Stop, run_over};
 use ll_wire::{Destination, Ends, Header, Pair, Version};
@@ -75,14 +76,16 @@ fn perform_over<H: Wait, D: Write + Drop, E: Ends>(
     requires whole { IsWhole (E.devices ends.old) }
     requires answered { (E.devices ends.old).owed ≡ 0 }
     requires reads { (E.devices ends.old).reads ≤ 2 ^ 62 }
-    ensures transcript { IfOk result (λ it. IfSome (E.devices ends.old).remaining (λ input.
-        Writes (E.devices ends.old).contents (E.devices ends.new).contents (λ text.
-        RunsAs is_strict setup input (E.devices ends.new).remaining text it.stop it.run.history.entries))) }
+    ensures transcript { IfOk result (λ it.
+        HasRun is_strict setup (E.devices ends.old).remaining (E.devices ends.new).remaining
+        (E.devices ends.old).contents (E.devices ends.new).contents it.stop it.run.history.entries) }
     ensures lax { IfOk result (λ it. is_strict ≡ false → it.stop ≡ None) }
     ensures legal { IfOk result (λ it. IsLegal (start setup.rules setup.nodes) it.run.history.entries) }
     ensures entries { IfOk result (λ it. All IsEntry it.run.history.entries) }
     ensures failure { IfErr result (λ failure. (fault : RunFault) × MayEnd setup fault
-        × (failure ≡ failure_of fault) × EndsBy setup fault (E.devices ends.old) (E.devices ends.new)) }
+        × (failure ≡ failure_of fault) × EndsBy setup fault (E.devices ends.old) (E.devices ends.new)
+        × HasBegun is_strict setup (E.devices ends.old).remaining
+        (E.devices ends.old).contents (E.devices ends.new).contents fault) }
     ensures same { E.names ends.new ≡ E.names ends.old }
 {
     let Some(draft) = record else {
@@ -116,14 +119,14 @@ fn perform<H: Wait, D: Write + Drop, R: Read, W: Write>(
     script: &mut R,
     out: &mut W,
 ) -> Result<Performed<D>, Failure>
-    ensures transcript { IfOk result (λ it. IfSome (R.remaining script.old) (λ input.
-        Writes (W.contents out.old) (W.contents out.new) (λ text.
-        RunsAs is_strict setup input (R.remaining script.new) text it.stop it.run.history.entries))) }
+    ensures transcript { IfOk result (λ it. HasRun is_strict setup (R.remaining script.old) (R.remaining script.new)
+        (W.contents out.old) (W.contents out.new) it.stop it.run.history.entries) }
     ensures lax { IfOk result (λ it. is_strict ≡ false → it.stop ≡ None) }
     ensures legal { IfOk result (λ it. IsLegal (start setup.rules setup.nodes) it.run.history.entries) }
     ensures entries { IfOk result (λ it. All IsEntry it.run.history.entries) }
-    ensures failure { IfErr result (λ failure. (fault : RunFault)
-        × MayEnd setup fault × (failure ≡ failure_of fault)) }
+    ensures failure { IfErr result (λ failure. (fault : RunFault) × MayEnd setup fault
+        × (failure ≡ failure_of fault)
+        × HasBegun is_strict setup (R.remaining script.old) (W.contents out.old) (W.contents out.new) fault) }
 {
     let mut ends = Pair {
         reader: script,
@@ -229,7 +232,7 @@ fn save_where_named<F: Destination>(
 // Returns what the program concludes from what ended the run of this script.
 fn conclude(alloc: Global, script: &str, stop: Option<Stop>) -> Result<Conclusion, Failure>
     ensures end { IfOk result (IsConcluded script.now stop) }
-    ensures failure { IfErr result (λ failure. failure ≡ Failure.NoMemory) }
+    ensures failure { IfErr result (λ failure. (is_some stop ≡ true) × (failure ≡ Failure.NoMemory)) }
 {
     let Some(stop) = stop else {
         return Ok(Conclusion::Done);
@@ -258,7 +261,8 @@ pub fn run<H: Wait, P: Read, R: Read, W: Write, F: Destination>(
         (F.blank file.old) (F.contents file.old) (F.contents file.new)) }
     ensures kept { OnErr result (F.contents file.new ≡ F.contents file.old) }
     ensures failure { IfErr result (λ failure. (text : List ℕ) × IfSome (P.remaining policy.old) (λ told. text ≡ told)
-        × MayFail (order_in options.now) text failure) }
+        × MayFail (order_in options.now) text (R.remaining script.old) (R.remaining script.new)
+        (W.contents out.old) (W.contents out.new) failure) }
 {
     let setup = match setup_of(alloc, &options.tree(), policy) {
         Ok(setup) => setup,
@@ -281,6 +285,30 @@ pub fn run<H: Wait, P: Read, R: Read, W: Write, F: Destination>(
     }
 }
 
+/// Judges the history that the devices read, and writes the verdict's line to them. Doesn't use a device again after it
+/// failed. Errors: a device failed in this call, or memory ran out.
+pub fn audit_over<E: Ends, P: Progress>(
+    alloc: Global,
+    ends: &mut E,
+    progress: &mut P,
+) -> Result<Verdict, Failure>
+    requires { IsReading (E.devices ends.old) 0 }
+    ensures verdict { IfOk result (λ verdict.
+        IfSome (E.devices ends.old).remaining (λ bytes. Judges (pieces bytes) verdict)) }
+    ensures answer { IfOk result (λ verdict.
+        Appends (E.devices ends.old).contents (E.devices ends.new).contents (verdict_line verdict)) }
+    ensures failure { IfErr result (FailsAudit (E.devices ends.old).remaining
+        (E.devices ends.old).contents (E.devices ends.new).contents) }
+    ensures fault { IfErr result (λ failure. (fault : FileAuditFault)
+        × BlamesAudit fault (E.devices ends.new) × (failure ≡ failure_at fault)) }
+    ensures same { E.names ends.new ≡ E.names ends.old }
+{
+    match run_audit_over(alloc, ends, progress) {
+        Ok(verdict) => Ok(verdict),
+        Err(fault) => Err(Failure::of_audit(fault)),
+    }
+}
+
 /// Judges the history in a file, and writes the verdict's line. Errors: the file or the output failed, or memory ran
 /// out.
 pub fn audit<R: Read, W: Write, P: Progress>(
@@ -291,10 +319,17 @@ pub fn audit<R: Read, W: Write, P: Progress>(
 ) -> Result<Verdict, Failure>
     ensures verdict { IfOk result (λ verdict. IfSome (R.remaining file.old) (λ bytes. Judges (pieces bytes) verdict)) }
     ensures answer { IfOk result (λ verdict. Appends (W.contents out.old) (W.contents out.new) (verdict_line verdict)) }
-    ensures failure { IfErr result IsOfDevices }
+    ensures failure { IfErr result
+        (FailsAudit (R.remaining file.old) (W.contents out.old) (W.contents out.new)) }
 {
-    match run_audit(alloc, file, out, progress) {
-        Ok(verdict) => Ok(verdict),
-        Err(failure) => Err(Failure::of_audit(failure)),
-    }
+    let mut ends = Pair {
+        reader: file,
+        writer: out,
+        reads: 0,
+        owed: 0,
+        is_answering: false,
+        is_input_broken: false,
+        is_output_broken: false,
+    };
+    audit_over(alloc, &mut ends, progress)
 }

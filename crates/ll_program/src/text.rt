@@ -23,11 +23,11 @@ pub fn read_text<R: Read>(alloc: Global, file: &mut R) -> Result<Vec<u8>, Failur
     }
 }
 
-/// Writes the text whole, to an output of the program. Doesn't retry after a failure.
-pub fn write_text<W: Write>(text: &str, out: &mut W) -> Result<(), Failure>
-    ensures ok { OnOk result (Appends (W.contents out.old) (W.contents out.new) text.now) }
+/// Writes all bytes, to an output of the program. Doesn't retry after a failure.
+pub fn write_bytes<W: Write>(bytes: &[u8], out: &mut W) -> Result<(), Failure>
+    ensures ok { OnOk result (Appends (W.contents out.old) (W.contents out.new) bytes.now) }
     ensures failure { IfErr result (λ failure. (failure ≡ Failure.Output)
-        × AppendsFront (W.contents out.old) (W.contents out.new) text.now) }
+        × AppendsFront (W.contents out.old) (W.contents out.new) bytes.now) }
 {
     let mut ends = Pair {
         reader: &mut empty(),
@@ -38,8 +38,17 @@ pub fn write_text<W: Write>(text: &str, out: &mut W) -> Result<(), Failure>
         is_input_broken: false,
         is_output_broken: false,
     };
-    match write_out(&mut ends, text.as_bytes()) {
+    match write_out(&mut ends, bytes) {
         Ok(()) => Ok(()),
         Err(_) => Err(Failure::Output),
     }
+}
+
+/// Writes the whole text, to an output of the program. Doesn't retry after a failure.
+pub fn write_text<W: Write>(text: &str, out: &mut W) -> Result<(), Failure>
+    ensures ok { OnOk result (Appends (W.contents out.old) (W.contents out.new) text.now) }
+    ensures failure { IfErr result (λ failure. (failure ≡ Failure.Output)
+        × AppendsFront (W.contents out.old) (W.contents out.new) text.now) }
+{
+    write_bytes(text.as_bytes(), out)
 }

@@ -10,4 +10,7 @@ returns-clause-transcript g c =
     (search rules) c.perform_over.ensures.transcript
 
 pub returns-clause-failure : goal.returns-clause-failure
-returns-clause-failure g c = by_devices c.perform_over.result c.args.setup _ _ c.perform_over.ensures.failure
+returns-clause-failure g c =
+    by_devices c.perform_over.result c.args.setup c.args.is_strict _ _ (g.R.Read.remaining c.args.script.now)
+    (g.W.Write.contents c.args.out.now) (g.W.Write.contents c.perform_over.new.ends.writer.now) _ (search rules)
+    c.perform_over.ensures.failure

@@ -1,29 +1,38 @@
-use Rattle.std.proofs.Common.{List, Option, inl, inr, subst, ℕ}
+use Rattle.std.proofs.Common.{List, Option, inl, inr, refl, subst, ℕ}
 use Rattle.ll_program.specs.Options.{TreeOrder, order_in}
 use Rattle.ll_program.specs.Policy.{IsSaved, IsSetup}
 use Rattle.ll_program.proofs.Known.{lacking}
-use Rattle.ll_program.proofs.Stopping.{untold}
 use Rattle.ll_program.proofs.program.run.Goals as goal
 
 pub returns-in-Err-clause-failure : goal.returns-in-Err-clause-failure
 returns-in-Err-clause-failure g c =
     let h = c.in-Err.ensures.failure in
     let order = order_in c.args.options.now in
-    (h.0, h.1, inl (lacking order c.tree.result h.0 c.in-Err.failure c.tree.ensures c.in-Err.ensures.named h.2))
+    let l = lacking order c.tree.result h.0 c.in-Err.failure c.tree.ensures c.in-Err.ensures.named h.2 in
+    (h.0, h.1, inl (l.0, l.1, refl))
 
 pub returns-in-Err-perform-clause-failure : goal.returns-in-Err-perform-clause-failure
 returns-in-Err-perform-clause-failure g c =
     let s = c.in-Ok.ensures.setup in
     let h = c.in-Err-perform.ensures.failure in
     let set = subst (λ (o : TreeOrder). IsSetup o s.0 c.in-Ok.setup) c.tree.ensures s.2 in
-    (s.0, s.1, inr (inl (c.in-Ok.setup, set, h.0, h.1, h.2)))
+    (s.0, s.1, inr (inl (c.in-Ok.setup, set, h.0, h.1, h.2, h.3)))
 
 pub returns-in-Err-conclude-clause-failure : goal.returns-in-Err-conclude-clause-failure
 returns-in-Err-conclude-clause-failure g c =
     let s = c.in-Ok.ensures.setup in
-    untold (order_in c.args.options.now) (g.P.Read.remaining c.args.policy.now) c.in-Ok.setup
-    (s.0, s.1, subst (λ (o : TreeOrder). IsSetup o s.0 c.in-Ok.setup) c.tree.ensures s.2)
-    c.in-Err-conclude.failure c.in-Err-conclude.ensures.failure
+    let p = c.in-Ok-perform in
+    let set = subst (λ (o : TreeOrder). IsSetup o s.0 c.in-Ok.setup) c.tree.ensures s.2 in
+    let unkept = inl c.in-Err-conclude.ensures.failure in
+    (s.0, s.1, inr (inr (c.in-Ok.setup, set, p.it.stop, p.it.run.history.entries, p.ensures.transcript, unkept)))
+
+pub returns-in-Err-save_where_named-clause-failure : goal.returns-in-Err-save_where_named-clause-failure
+returns-in-Err-save_where_named-clause-failure g c =
+    let s = c.in-Ok.ensures.setup in
+    let p = c.in-Ok-perform in
+    let set = subst (λ (o : TreeOrder). IsSetup o s.0 c.in-Ok.setup) c.tree.ensures s.2 in
+    let unkept = inr c.in-Err-save_where_named.ensures.failure in
+    (s.0, s.1, inr (inr (c.in-Ok.setup, set, p.it.stop, p.it.run.history.entries, p.ensures.transcript, unkept)))
 
 pub returns-in-Ok-save_where_named-clause-done : goal.returns-in-Ok-save_where_named-clause-done
 returns-in-Ok-save_where_named-clause-done g c =
