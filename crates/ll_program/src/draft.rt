@@ -11,6 +11,9 @@ use std::{fs, io};
 /// How many names beside a file are tried for a draft of it.
 const NAMES: usize = 100;
 
+/// How often a name is looked at whose file others replace.
+const LOOKS: usize = 1000;
+
 /// The most links that a name may lead through.
 const LINKS: usize = 40;
 
@@ -51,23 +54,34 @@ enum Home {
 }
 
 impl Home {
-    // Whoever may not write a file may not replace it either.
-    fn of(rt: &HostRuntime, name: &str) -> io::Result<Home> {
+    // Returns None if another file came there meanwhile. Whoever may not write a file may not replace it either.
+    fn seen(rt: &HostRuntime, name: &str) -> io::Result<Option<Home>> {
         let found = match fs::metadata(rt, name) {
             Ok(found) if found.is_file() => found,
-            Ok(_) => return Ok(Home::Fixed),
+            Ok(_) => return Ok(Some(Home::Fixed)),
             Err(error) if error.kind() == ErrorKind::NotFound && !name.is_empty() => {
-                return Ok(Home::Regular(followed(rt, name)?, None));
+                return Ok(Some(Home::Regular(followed(rt, name)?, None)));
             }
             Err(error) => return Err(error),
         };
         drop(OpenOptions::new().write(true).open(rt, name)?);
         let path = followed(rt, name)?;
         if are_of_one_file(&found, &fs::metadata(rt, path.as_path())?) {
-            Ok(Home::Regular(path, Some(found.permissions())))
+            Ok(Some(Home::Regular(path, Some(found.permissions()))))
         } else {
-            Err(Error::from(ErrorKind::NotFound))
+            Ok(None)
         }
+    }
+
+    // Looks again where another program replaces the file at the same moment, as a run that saves the same one does.
+    fn of(rt: &HostRuntime, name: &str) -> io::Result<Home> {
+        for _ in 0..LOOKS {
+            if let Some(home) = Home::seen(rt, name)? {
+                return Ok(home);
+            }
+        }
+        let message = "others replace the file all the time";
+        Err(Error::new(ErrorKind::NotFound, message))
     }
 }
 
