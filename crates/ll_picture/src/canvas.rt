@@ -18,50 +18,62 @@ pub fn width_of(text: &str, width: f64) -> f64 {
     nearest_usize_to_f64(text.chars().count()) * width
 }
 
-/// A text cut to at most this many characters, with a sign that it goes on if it has more.
-#[derive(Drop)]
+/// A text cut in the middle to at most this many bytes, with a sign where some are left out.
+#[derive(Clone, Copy)]
 pub struct Cut<'a> {
-    text: &'a str,
-    goes_on: bool,
+    front: &'a str,
+    // What comes behind the sign, if there is one.
+    back: Option<&'a str>,
+}
+
+// Writes a text. Escapes characters with a meaning in SVG, and writes a question mark for those that may not be there.
+fn write_escaped<W: fmt::Write>(f: &mut fmt::Formatter<W>, text: &str) -> fmt::Result {
+    for c in text.chars() {
+        match c {
+            '&' => f.write_str("&amp;")?,
+            '<' => f.write_str("&lt;")?,
+            '>' => f.write_str("&gt;")?,
+            '\'' => f.write_str("&#39;")?,
+            ' '..='~' | '\u{a0}'..='\u{d7ff}' => f.write_char(c)?,
+            _ => f.write_char('?')?,
+        }
+    }
+    Ok(())
 }
 
 impl<'a> Cut<'a> {
     pub fn new(text: &'a str, most: usize) -> Cut<'a> {
-        match text.char_indices().nth(most) {
-            Some((end, _)) => Cut {
-                text: &text[..end],
-                goes_on: true,
-            },
-            None => Cut::whole(text),
+        if text.len() <= most {
+            return Cut::whole(text);
+        }
+        let behind = most / 2;
+        let end = text.floor_char_boundary(most - behind);
+        let start = text.floor_char_boundary(text.len() - behind);
+        Cut {
+            front: &text[..end],
+            back: Some(&text[start..]),
         }
     }
 
     /// Returns the text uncut.
     pub fn whole(text: &'a str) -> Cut<'a> {
         Cut {
-            text,
-            goes_on: false,
+            front: text,
+            back: None,
         }
     }
 }
 
-// Escapes characters with a meaning in SVG, and replaces those that may not be there with a question mark.
 impl Display for Cut<'_> {
     fn fmt<W: fmt::Write>(&self, f: &mut fmt::Formatter<W>) -> fmt::Result {
-        for c in self.text.chars() {
-            match c {
-                '&' => f.write_str("&amp;")?,
-                '<' => f.write_str("&lt;")?,
-                '>' => f.write_str("&gt;")?,
-                '\'' => f.write_str("&#39;")?,
-                ' '..='~' | '\u{a0}'..='\u{d7ff}' => f.write_char(c)?,
-                _ => f.write_char('?')?,
+        write_escaped(f, self.front)?;
+        match self.back {
+            Some(back) => {
+                f.write_str("…")?;
+                write_escaped(f, back)
             }
+            None => Ok(()),
         }
-        if self.goes_on {
-            f.write_str("…")?;
-        }
-        Ok(())
     }
 }
 

@@ -36,8 +36,10 @@ fn draw_rows(alloc: Global, sheet: &Sheet, scene: &Scene) -> Result<Canvas, Allo
     let mut canvas = Canvas::new(alloc);
     let mut above = Canvas::new(alloc);
     write_tints(&mut canvas, sheet.rows())?;
-    for (index, row) in scene.rows.iter().enumerate().take(sheet.rows()) {
-        draw_row(alloc, &mut canvas, &mut above, sheet, index, row)?;
+    for (index, row) in scene.rows.iter().enumerate() {
+        if sheet.has(index) {
+            draw_row(alloc, &mut canvas, &mut above, sheet, index, row)?;
+        }
     }
     canvas.add(above.as_str())?;
     write_numbers(alloc, &mut canvas, sheet, scene)?;

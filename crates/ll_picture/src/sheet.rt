@@ -34,35 +34,37 @@ pub struct Sheet {
     /// Where the last row ends.
     pub bottom: f64,
     pub width: f64,
-    // The height of each row's client line, from the top.
-    lines: Vec<f64>,
+    // The height of each row's client line, from the top; None for a row that isn't drawn.
+    lines: Vec<Option<f64>>,
 }
 
-// Whether the row's client exists before this line.
-fn comes_before(row: &Row, line: usize) -> bool {
-    match row.moments.first() {
-        Some(moment) => moment.line < line,
-        None => false,
-    }
-}
-
-// How far down the bars of the row's walks reach, in the lines that are drawn.
-fn depth_of(row: &Row, first: usize, end: usize) -> f64 {
+// How far down the bars of the row's walks reach in the lines that are drawn. None if the row's client does nothing
+// there but come, if at all, and has no walk under way.
+fn depth_of(row: &Row, first: usize, end: usize) -> Option<f64> {
     let mut deepest = 0.0f64;
     let mut depth = 0.0f64;
+    let mut walks = false;
+    let mut acts = false;
     for moment in row.moments.iter().take_while(|moment| moment.line < end) {
         match moment.event {
             Event::Begun | Event::Restarted | Event::Answered(_) => depth = 0.0,
             Event::Stands(_, _) => depth += STEP,
             _ => {}
         }
-        deepest = if moment.line < first {
-            depth
+        match moment.event {
+            Event::Begun => walks = true,
+            Event::Answered(_) => walks = false,
+            _ => {}
+        }
+        if moment.line < first {
+            deepest = depth;
+            acts = walks;
         } else {
-            deepest.max(depth)
-        };
+            deepest = deepest.max(depth);
+            acts = acts || !matches!(moment.event, Event::Came);
+        }
     }
-    deepest
+    if acts { Some(deepest) } else { None }
 }
 
 // The length of the writing at the head of a column.
@@ -73,18 +75,23 @@ fn writing_of(column: &Column) -> f64 {
     line.max(outcome).min(most)
 }
 
-// The height of the line of each client that exists before the end, and where the last row ends.
+// The height of each client's line, if the client does anything in the lines drawn, and where the last row ends.
 fn lines_from(
     alloc: Global,
     top: f64,
     scene: &Scene,
     end: usize,
-) -> Result<(Vec<f64>, f64), AllocError> {
+) -> Result<(Vec<Option<f64>>, f64), AllocError> {
     let mut lines = Vec::new(alloc);
     let mut bottom = top;
-    for row in scene.rows.iter().take_while(|row| comes_before(row, end)) {
-        lines.push(bottom + ABOVE)?;
-        bottom += ABOVE + depth_of(row, scene.first, end) + BELOW;
+    for row in scene.rows.iter() {
+        match depth_of(row, scene.first, end) {
+            Some(depth) => {
+                lines.push(Some(bottom + ABOVE))?;
+                bottom += ABOVE + depth + BELOW;
+            }
+            None => lines.push(None)?,
+        }
     }
     Ok((lines, bottom))
 }
@@ -151,8 +158,16 @@ impl Sheet {
         LEFT + self.pitch * nearest_usize_to_f64(self.end.saturating_sub(self.first))
     }
 
+    /// Reports whether the row is drawn.
+    pub fn has(&self, row: usize) -> bool {
+        matches!(self.lines.get(row), Some(Some(_)))
+    }
+
     /// Returns the height of a row's client line, from the top.
     pub fn line(&self, row: usize) -> f64 {
-        self.lines.get(row).copied().unwrap_or(self.top)
+        match self.lines.get(row) {
+            Some(Some(line)) => *line,
+            _ => self.top,
+        }
     }
 }
