@@ -1,13 +1,14 @@
--- Lessons, the trees that they are made in, and profiles that are tried.
+-- Lessons, the trees that they are made in, and the calls of profiles.
 use Rattle.std.proofs.Common.{◌≡◌, ◌∙◌, ◌<◌, ℕ, ◌+◌, Bool, true, false, cond, not, List, [], ◌∷◌, ◌++◌, length, map}
-use Rattle.std.proofs.Common.{append-nil, take, get_or, refl, sym, ap, subst, arith}
-use Rattle.std.specs.List.{AllByRecursion, AllZip, filter}
+use Rattle.std.proofs.Common.{append-nil, take, get_or, inl, inr, is_some, option_map, refl, sym, ap, subst}
+use Rattle.std.specs.Prelude.{◌⊎◌}
+use Rattle.std.specs.List.{AllZip, filter}
 use Rattle.std.specs.Borrow.{Bor}
 use Rattle.std.specs.declared.alloc.Global.{Global}
 use Rattle.std.specs.declared.vec.Vec.{Vec}
 use Rattle.std.proofs.lemmas.List.{length-map, map-append, take_more}
 use Rattle.std.proofs.lemmas.List.Elements.{All-append, All-cons, All-map, All-nil, All-same, filter_more}
-use Rattle.std.proofs.lemmas.List.Sums.{sum_by-cons}
+use Rattle.std.proofs.lemmas.Option.{slice_get-map, slice_get_read}
 use Rattle.ll_seq.specs.declared.call.Call.{Call}
 use Rattle.ll_seq.specs.declared.call.Call.TheVariants.{Confine, Ruleset}
 use Rattle.ll_seq.specs.declared.reply.Entry.{Entry}
@@ -17,19 +18,27 @@ use Rattle.ll_learn.specs.declared.profile.LearnedProfile.{LearnedProfile}
 use Rattle.ll_learn.specs.declared.profile.LearnedRule.{LearnedRule}
 use Rattle.ll_learn.specs.Profile.{call_of, calls_of}
 use Rattle.ll_session.specs.CallsRun.{Makes}
+use Rattle.ll_rights.specs.declared.limits.TheConstants.{HISTORY_ENTRIES}
+use Rattle.ll_session.specs.Run.{MayEnd}
 use Rattle.ll_session.specs.Session.{AreOthers}
 use Rattle.ll_session.specs.declared.calls_run.CallReplies.{CallReplies}
 use Rattle.ll_session.specs.declared.calls_run.CallReplies.TheVariants.{Answered, Refused}
+use Rattle.ll_session.specs.declared.fault.RunFault.{RunFault}
+use Rattle.ll_session.specs.declared.fault.RunFault.TheVariants as run
 use Rattle.ll_session.specs.declared.setup.Setup.{Setup}
-use Rattle.ll_program.specs.Options.{LearnOrder}
-use Rattle.ll_check.specs.declared.judging.Detail.{Detail}
-use Rattle.ll_check.specs.declared.judging.Tally.{Tally}
+use Rattle.ll_program.specs.Options.{LearnOrder, lesson_tree}
+use Rattle.ll_program.specs.Policy.{Lacks}
+use Rattle.ll_program.specs.declared.failure.Failure.{Failure}
+use Rattle.ll_program.specs.declared.failure.Failure.TheVariants.{File, NoMemory, Opening}
+use Rattle.ll_check.specs.declared.lessons.FileLessons.{FileLessons}
 use Rattle.ll_check.specs.declared.reading.Test.{Test}
 use Rattle.ll_check.specs.Files.{Tests, room_for}
-use Rattle.ll_check.specs.Lessons.{AreMade, AreMet, AreTaught, IsBlank, IsLearnedFrom, IsTree, PassesUnder}
-use Rattle.ll_check.specs.Report.{IsChecked, IsJudged, Judged, failed}
-use Rattle.ll_check.specs.Wanted.{Satisfies, wants_denial}
+use Rattle.ll_check.specs.Lessons.{AreMade, AreMet, AreRun, AreTaught, AreUnmet, FailsToMake, HasUnmet, HasUnmetFile}
+use Rattle.ll_check.specs.Lessons.{IsBlank, IsLearnedFrom, IsTree, IsUnmet, picked, ran_out}
+use Rattle.ll_check.specs.Replied.{HasReplies}
+use Rattle.ll_check.specs.Wanted.{wants_denial}
 use Rattle.ll_check.proofs.Files.{same_room}
+use Rattle.ll_check.proofs.Judges.{has_replies}
 use Rattle.ll_check.proofs.Told.{each_more}
 
 -- ---- lists
@@ -43,11 +52,6 @@ zip_more {A} {B} R xs ys i x y here there is so all holds =
     (subst (λ (b : List B). AllZip R (take i xs ++ x ∷ []) b)
     (sym (take_more ys i y there ∙ ap (λ (z : B). take i ys ++ z ∷ []) (sym so)))
     (each_more R (take i xs) (take i ys) x y all holds))
-
-pub each_one_more : {A : Type 0} (P : A → Type 0) (xs : List A) (x : A) → AllByRecursion P xs → P x
-    → AllByRecursion P (xs ++ x ∷ [])
-each_one_more P [] x all is = (is, tt)
-each_one_more P (c ∷ xs) x all is = (all.0, each_one_more P xs x all.1 is)
 
 -- ---- lessons
 
@@ -88,6 +92,44 @@ passed_over tests i test picked below is so wanted =
     ∙ ap (λ (b : Bool). filter (λ t. not (wants_denial t.wanted)) (take i tests)
     ++ cond b (get_or tests i test ∷ []) []) other)
 
+-- the first that isn't met
+pub first_unmet : (lessons : List (Bor Test)) (replies : List Reply) (i : ℕ) (lesson : Bor Test) (reply : Reply)
+    → i < length lessons → i < length replies → lesson ≡ get_or lessons i lesson → reply ≡ get_or replies i reply
+    → AllZip IsLearnedFrom (take i (map (λ (t : Bor Test). t.now) lessons)) (take i replies)
+    → (IsLearnedFrom lesson.now reply → ⊥) → HasUnmet (map (λ (t : Bor Test). t.now) lessons) replies
+first_unmet lessons replies i lesson reply here there is so before unmet = record {
+  index = i;
+  before = before;
+  lesson = lesson.now;
+  is = slice_get-map (λ (t : Bor Test). t.now) lessons i
+      ∙ ap (option_map (λ (t : Bor Test). t.now)) (slice_get_read lessons (length lessons) i lesson refl here is);
+  reply = reply;
+  gets = slice_get_read replies (length replies) i reply refl there so;
+  unmet = unmet;
+}
+
+module _ (lessons : List Test) (made : CallReplies) (replies : Vec Reply Global) (slice : List Reply)
+    (is : made ≡ Answered replies) (same : slice ≡ replies.items) where
+  pub met_so : AllZip IsLearnedFrom lessons slice → AreMet lessons made
+  met_so met = subst (λ (m : CallReplies). AreMet lessons m) (sym is)
+      (subst (λ (x : List Reply). AllZip IsLearnedFrom lessons x) same met)
+
+  pub unmet_so : HasUnmet lessons slice → AreUnmet lessons made
+  unmet_so unmet = subst (λ (m : CallReplies). AreUnmet lessons m) (sym is)
+      (subst (λ (x : List Reply). HasUnmet lessons x) same unmet)
+
+pub refused_so : (lessons : List Test) (made : CallReplies) (reply : Reply) → made ≡ Refused reply
+    → AreUnmet lessons made
+refused_so lessons made reply is = subst (λ (m : CallReplies). AreUnmet lessons m) (sym is) tt
+
+-- each lesson has its reply
+pub lessons_replied : (setup : Setup) (tests : List (Bor Test)) (made : CallReplies) (entries : List Entry)
+    → Makes setup (map (λ (t : Test). t.call) (map (λ (t : Bor Test). t.now) tests)) made entries
+    → HasReplies (length tests) made
+lessons_replied setup tests made entries makes =
+    subst (λ (n : ℕ). HasReplies n made) (length-map tests (λ (t : Bor Test). t.now))
+    (has_replies setup (map (λ (t : Bor Test). t.now) tests) made entries makes)
+
 -- ---- trees
 
 module _ (order : LearnOrder) (policy : List ℕ) where
@@ -108,6 +150,22 @@ module _ (order : LearnOrder) (policy : List ℕ) where
         profile = ap (λ (x : Vec Call Global). x.items) profile' ∙ profile;
       }
 
+  -- a text that is there gives no setup
+  pub not_given : (failure told : Failure) → is_some order.policy ≡ true
+      → Lacks (lesson_tree order HISTORY_ENTRIES) policy failure → (told ≡ File → ⊥)
+      → (told ≡ failure) ⊎ (told ≡ NoMemory) → FailsToMake order policy told
+  not_given failure told named lacks there (inl same) =
+      inl (named, subst (Lacks (lesson_tree order HISTORY_ENTRIES) policy) (sym same) lacks, there)
+  not_given failure told named lacks there (inr wanting) = inr (inr wanting)
+
+  -- a tree isn't opened
+  pub not_made : (calls : List Call) (tests : ℕ) (setup : Setup) (fault : RunFault) (failure : Failure)
+      → IsTree order policy calls tests setup → MayEnd setup fault
+      → ((failure ≡ Opening) × (fault ≡ run.Opening)) ⊎ (failure ≡ NoMemory) → FailsToMake order policy failure
+  not_made calls tests setup fault failure tree ends (inl opening) =
+      inr (inl (opening.0, calls, tests, setup, tree, subst (MayEnd setup) opening.1 ends))
+  not_made calls tests setup fault failure tree ends (inr wanting) = inr (inr wanting)
+
   -- lessons that are met are taught
   pub taught : (lessons : Tests) (tests : List (Bor Test)) (calls : List Call) (made : CallReplies) (setup : Setup)
       (entries : List Entry) → map (λ (t : Bor Test). t.now) tests ≡ lessons.tests → calls ≡ []
@@ -126,6 +184,35 @@ module _ (order : LearnOrder) (policy : List ℕ) where
       })
   taught lessons tests calls (Refused reply) setup entries e none tree makes met = absurd met
 
+  -- those that aren't are not
+  pub not_met : (lessons : Tests) (tests : List (Bor Test)) (calls : List Call) (made : CallReplies) (setup : Setup)
+      (entries : List Entry) → map (λ (t : Bor Test). t.now) tests ≡ lessons.tests → calls ≡ []
+      → IsTree order policy calls (length tests) setup
+      → Makes setup (map (λ (t : Test). t.call) (map (λ (t : Bor Test). t.now) tests)) made entries
+      → ran_out made ≡ false → AreUnmet (map (λ (t : Bor Test). t.now) tests) made → IsUnmet order policy lessons
+  not_met lessons tests calls made setup entries e none tree makes enough unmet = record {
+    made = made;
+    run = subst (λ (x : List Test). AreRun order policy [] x made) e (record {
+      setup = setup;
+      entries = entries;
+      tree = subst (λ (n : ℕ). IsTree order policy [] n setup) (sym (length-map tests (λ (t : Bor Test). t.now)))
+          (subst (λ (x : List Call). IsTree order policy x (length tests) setup) none tree);
+      makes = makes;
+      enough = enough;
+    });
+    unmet = subst (λ (x : List Test). AreUnmet x made) e unmet;
+  }
+
+  pub one_not_met : (files : List FileLessons) (i : ℕ) (file : FileLessons) → i < length files
+      → file ≡ get_or files i file → IsUnmet order policy (picked file)
+      → HasUnmetFile order policy (map picked files)
+  one_not_met files i file below is unmet = (
+    i,
+    picked file,
+    slice_get-map picked files i ∙ ap (option_map picked) (slice_get_read files (length files) i file refl below is),
+    unmet,
+  )
+
 -- ---- profiles
 
 -- none of a profile's calls is a connect
@@ -140,44 +227,3 @@ others profile =
 
 pub are_others : (profile : LearnedProfile) (calls : List Call) → calls ≡ calls_of profile → AreOthers calls
 are_others profile calls e = All-same (λ call. is_connect call ≡ false) calls (calls_of profile) e (others profile)
-
-passes : (b : Bool) → ◌≡◌ {A = ℕ} (cond (not b) 1 0) 0 → b ≡ true
-passes true h = refl
-passes false h = absurd (omega (arith, h))
-
--- where none fails, each passes
-none_failed : (verdicts : List Judged) → AllByRecursion IsJudged verdicts → failed verdicts ≡ 0
-    → AllZip (λ (test : Test) (got : Reply). Satisfies test.wanted got) (map (λ (it : Judged). it.test) verdicts)
-    (map (λ (it : Judged). it.reply) verdicts)
-none_failed [] all none = tt
-none_failed (it ∷ verdicts) all none =
-    let one = sum_by-cons (λ (j : Judged). cond (not j.passes) 1 0) it verdicts in
-    let first : ◌≡◌ {A = ℕ} (cond (not it.passes) 1 0) 0 = omega (arith, one, none) in
-    let rest : failed verdicts ≡ 0 = omega (arith, one, none) in
-    (all.0.0 (passes it.passes first), none_failed verdicts all.1 rest)
-
-module _ (order : LearnOrder) (policy : List ℕ) (profile : LearnedProfile) where
-  -- a file of which no test fails passes
-  pub file_passes : (file : Tests) (tests : List Test) (calls : List Call) (detail : Detail) (setup : Setup)
-      (name : List ℕ) (made : CallReplies) (entries : List Entry) (before after : List ℕ) (tally : Tally)
-      → tests ≡ file.tests → calls ≡ calls_of profile → IsTree order policy calls (length tests) setup
-      → IsChecked detail setup name tests made entries before after tally → tally.failed ≡ 0
-      → PassesUnder order policy profile file
-  file_passes file tests calls detail setup name (Refused reply) entries before after tally e same tree checked none =
-      let one = checked.1.1 in absurd (omega (arith, one, none))
-  file_passes file tests calls detail setup name (Answered replies) entries before after tally e same tree checked
-      none = (
-        entries,
-        subst (λ (x : List Test). AreMade order policy (calls_of profile)
-            (λ (test : Test) (got : Reply). Satisfies test.wanted got) x entries) e (record {
-              setup = setup;
-              replies = replies;
-              tree = subst (λ (x : List Call). IsTree order policy x (length tests) setup) same tree;
-              makes = checked.0;
-              each = subst (λ (x : List Test). AllZip (λ (test : Test) (got : Reply). Satisfies test.wanted got) x
-                  replies.items) checked.1.1.of_tests
-                  (subst (λ (x : List Reply). AllZip (λ (test : Test) (got : Reply). Satisfies test.wanted got)
-                  (map (λ (it : Judged). it.test) checked.1.0) x) checked.1.1.by_replies
-                  (none_failed checked.1.0 checked.1.1.each (sym checked.1.4 ∙ none)));
-            }),
-      )

@@ -2,7 +2,7 @@
 use Rattle.std.proofs.Common.{◌≡◌, ◌∙◌, ◌<◌, ℕ, zero, suc, ◌+◌, List, [], ◌∷◌, ◌++◌, length, map, take, get_or}
 use Rattle.std.proofs.Common.{Option, Some, None, option_map, is_some, true, refl, sym, ap, ap₂, subst, arith, inl}
 use Rattle.std.proofs.Common.{inr, Result, Ok, Err}
-use Rattle.std.specs.Prelude.{◌&&◌, IfOk, min, slice_get}
+use Rattle.std.specs.Prelude.{◌&&◌, IfErr, IfOk, min, slice_get}
 use Rattle.std.specs.List.{AllZip, list_all}
 use Rattle.std.specs.Option.{option_map_or}
 use Rattle.std.specs.Borrow.{Bor}
@@ -25,14 +25,14 @@ use Rattle.ll_program.specs.declared.failure.Failure.{Failure}
 use Rattle.ll_program.specs.Policy.{IsSetBy, IsSetup, Lacks}
 use Rattle.ll_check.specs.declared.checks.NamedText.{NamedText}
 use Rattle.ll_check.specs.declared.checks.ReadFile.{ReadFile}
-use Rattle.ll_check.specs.declared.judging.Detail.{Detail}
+use Rattle.ll_check.specs.declared.judging.Style.{Style}
 use Rattle.ll_check.specs.declared.judging.Tally.{Tally}
 use Rattle.ll_check.specs.declared.reading.CheckFault.{CheckFault}
 use Rattle.ll_check.specs.declared.reading.CheckFault.TheVariants as faults
 use Rattle.ll_check.specs.declared.reading.Test.{Test}
 use Rattle.ll_check.specs.Checks.{IsFirstBad}
 use Rattle.ll_check.specs.Files.{AreChecked, AreTestsOf, Concludes, HasBadLine, IsCheck, IsFileChecked, IsReadAs}
-use Rattle.ll_check.specs.Files.{IsSetFor, MayFail, Tests, detail_of, has_test, room_for, source_of, tests_of}
+use Rattle.ll_check.specs.Files.{HasBegun, IsSetFor, MayFail, Tests, style_of, has_test, room_for, source_of, tests_of}
 use Rattle.ll_check.specs.Report.{IsChecked}
 
 -- ---- files that are read
@@ -89,21 +89,21 @@ one_more files i file below is =
     ∙ map-append tests_of (take i files) (get_or files i file ∷ [])
     ∙ ap (λ (x : ReadFile). map tests_of (take i files) ++ tests_of x ∷ []) (sym is)
 
-pub file_checked : (order : CheckOrder) (policy : List ℕ) (file : ReadFile) (detail : Detail) (setup : Setup)
+pub file_checked : (order : CheckOrder) (policy : List ℕ) (file : ReadFile) (style : Style) (setup : Setup)
     (name : List ℕ) (tests : List Test) (made : CallReplies) (entries : List Entry) (before after : List ℕ)
-    (tally : Tally) → detail ≡ detail_of order → name ≡ file.name.now → tests ≡ file.checks.tests.items
+    (tally : Tally) → style ≡ style_of order → name ≡ file.name.now → tests ≡ file.checks.tests.items
     → IsSetFor order policy (length tests) setup
-    → IsChecked detail setup name tests made entries before after tally
+    → IsChecked style setup name tests made entries before after tally
     → IsFileChecked order policy (tests_of file) before after tally
-file_checked order policy file detail setup name tests made entries before after tally d n t is checked =
+file_checked order policy file style setup name tests made entries before after tally d n t is checked =
     let items : List Test = file.checks.tests.items in (
       setup,
       made,
       entries,
       subst (λ (k : ℕ). IsSetFor order policy k setup) (ap length t) is,
-      subst (λ (x : Detail). IsChecked x setup file.name.now items made entries before after tally) d
-          (subst (λ (x : List ℕ). IsChecked detail setup x items made entries before after tally) n
-          (subst (λ (x : List Test). IsChecked detail setup name x made entries before after tally) t checked)),
+      subst (λ (x : Style). IsChecked x setup file.name.now items made entries before after tally) d
+          (subst (λ (x : List ℕ). IsChecked style setup x items made entries before after tally) n
+          (subst (λ (x : List Test). IsChecked style setup name x made entries before after tally) t checked)),
     )
 
 none : Tally
@@ -204,6 +204,21 @@ concluded order policy texts files all old new (Ok end) read same done = (
   ),
   done.2,
 )
+
+-- so is what was begun of it
+pub begun : (order : CheckOrder) (policy : List ℕ) (texts : List NamedText) (files all : List ReadFile)
+    (old new : Option (List ℕ)) (r : Result Checked Failure) → AllZip IsReadAs texts files → all ≡ files
+    → IfErr r (HasBegun (Concludes order policy (map tests_of all)) old new)
+    → IfErr r (HasBegun (IsCheck order policy (map source_of texts)) old new)
+begun order policy texts files all old new (Ok end) read same h = tt
+begun order policy texts files all old new (Err failure) read same (inl none) = inl none
+begun order policy texts files all old new (Err failure) read same (inr some) =
+    let told = inr (
+      map tests_of files,
+      all_read texts files read,
+      subst (λ (x : List ReadFile). Concludes order policy (map tests_of x) some.1 some.2) same some.3,
+    ) in
+    inr (some.0, some.1, some.2, told, some.4)
 
 -- where a line of the texts says nothing, nothing is written
 pub bad_file : (order : CheckOrder) (policy : List ℕ) (texts : List NamedText) (fault : CheckFault)

@@ -15,7 +15,7 @@ use Rattle.ll_session.specs.declared.calls_run.CallReplies.{CallReplies}
 use Rattle.ll_session.specs.declared.calls_run.CallReplies.TheVariants.{Answered, Refused}
 use Rattle.ll_session.specs.declared.client_call.ClientCall.{ClientCall}
 use Rattle.ll_session.specs.declared.setup.Setup.{Setup}
-use Rattle.ll_check.specs.declared.judging.Detail.{Detail}
+use Rattle.ll_check.specs.declared.judging.Style.{Style}
 use Rattle.ll_check.specs.declared.judging.Tally.{Tally}
 use Rattle.ll_check.specs.declared.reading.Test.{Test}
 use Rattle.ll_check.specs.Replied.{HasReplies}
@@ -46,21 +46,21 @@ by_verdict true = refl
 by_verdict false = refl
 
 -- none is judged yet
-pub none_judged : (detail : Detail) (file : List ℕ) (out : List ℕ) (tally : Tally) → tally.passed ≡ 0
-    → tally.failed ≡ 0 → Judges detail file [] [] out out tally
-none_judged detail file out tally p f =
+pub none_judged : (style : Style) (file : List ℕ) (out : List ℕ) (tally : Tally) → tally.passed ≡ 0
+    → tally.failed ≡ 0 → Judges style file [] [] out out tally
+none_judged style file out tally p f =
     ([], record { of_tests = refl; by_replies = refl; each = tt }, sym (append-nil out), p, f)
 
 -- one more is
-pub one_judged : (detail : Detail) (file : List ℕ) (tests : List Test) (replies : List Reply) (i : ℕ) (test : Test)
+pub one_judged : (style : Style) (file : List ℕ) (tests : List Test) (replies : List Reply) (i : ℕ) (test : Test)
     (reply : Reply) (passes : Bool) (before mid after : List ℕ) (sum more : Tally) → i < length tests
     → i < length replies → test ≡ get_or tests i test → reply ≡ get_or replies i reply
-    → Judges detail file (take i tests) (take i replies) before mid sum
+    → Judges style file (take i tests) (take i replies) before mid sum
     → IsTrue passes ↔ Satisfies test.wanted reply
-    → after ≡ mid ++ shown detail file (judged test reply passes)
+    → after ≡ mid ++ shown style file (judged test reply passes)
     → more.passed ≡ sum.passed + cond passes 1 0 → more.failed ≡ sum.failed + cond passes 0 1
-    → Judges detail file (take (i + 1) tests) (take (i + 1) replies) before after more
-one_judged detail file tests replies i test reply passes before mid after sum more t r here there done is out p f =
+    → Judges style file (take (i + 1) tests) (take (i + 1) replies) before after more
+one_judged style file tests replies i test reply passes before mid after sum more t r here there done is out p f =
     let it : Judged = judged test reply passes in
     let verdicts : List Judged = done.0 in (
       verdicts ++ it ∷ [],
@@ -73,9 +73,9 @@ one_judged detail file tests replies i test reply passes before mid after sum mo
             ∙ ap (λ (x : Reply). take i replies ++ x ∷ []) there ∙ sym (take_more replies i reply r);
         each = all_more verdicts it done.1.each is;
       },
-      out ∙ ap (λ (x : List ℕ). x ++ shown detail file it) done.2
-          ∙ append_assoc before (flat_map (shown detail file) verdicts) (shown detail file it)
-          ∙ ap (λ (x : List ℕ). before ++ x) (sym (flat_more (shown detail file) verdicts it)),
+      out ∙ ap (λ (x : List ℕ). x ++ shown style file it) done.2
+          ∙ append_assoc before (flat_map (shown style file) verdicts) (shown style file it)
+          ∙ ap (λ (x : List ℕ). before ++ x) (sym (flat_more (shown style file) verdicts it)),
       p ∙ ap (λ n. n + cond passes 1 0) done.3 ∙ sym (count_more (λ (j : Judged). j.passes) verdicts it),
       f ∙ ap (λ n. n + cond passes 0 1) done.4 ∙ ap (λ n. failed verdicts + n) (sym (by_verdict passes))
           ∙ sym (count_more (λ (j : Judged). not j.passes) verdicts it),
@@ -108,21 +108,21 @@ pub counted : (p f p' f' i : ℕ) (b : Bool) → p' ≡ p + cond b 1 0 → f' �
 counted p f p' f' i true q g all = omega (arith, q, g, all)
 counted p f p' f' i false q g all = omega (arith, q, g, all)
 
-pub all_judged : (detail : Detail) (file : List ℕ) (tests : List Test) (replies : List Reply) (n : ℕ)
+pub all_judged : (style : Style) (file : List ℕ) (tests : List Test) (replies : List Reply) (n : ℕ)
     (before after : List ℕ) (tally : Tally) → length tests ≤ n → length replies ≤ n
-    → Judges detail file (take n tests) (take n replies) before after tally
-    → Judges detail file tests replies before after tally
-all_judged detail file tests replies n before after tally t r h =
-    subst (λ (x : List Test). Judges detail file x replies before after tally) (take_all n tests t)
-    (subst (λ (x : List Reply). Judges detail file (take n tests) x before after tally) (take_all n replies r) h)
+    → Judges style file (take n tests) (take n replies) before after tally
+    → Judges style file tests replies before after tally
+all_judged style file tests replies n before after tally t r h =
+    subst (λ (x : List Test). Judges style file x replies before after tally) (take_all n tests t)
+    (subst (λ (x : List Reply). Judges style file (take n tests) x before after tally) (take_all n replies r) h)
 
-pub judged_by : (detail : Detail) (file : List ℕ) (tests : List Test) (made : CallReplies)
+pub judged_by : (style : Style) (file : List ℕ) (tests : List Test) (made : CallReplies)
     (replies : Vec Reply Global) (slice : List Reply) (before after : List ℕ) (tally : Tally)
-    → made ≡ Answered replies → slice ≡ replies.items → Judges detail file tests slice before after tally
-    → Tells detail file tests made before after tally
-judged_by detail file tests made replies slice before after tally is same h =
-    subst (λ (m : CallReplies). Tells detail file tests m before after tally) (sym is)
-    (subst (λ (x : List Reply). Judges detail file tests x before after tally) same h)
+    → made ≡ Answered replies → slice ≡ replies.items → Judges style file tests slice before after tally
+    → Tells style file tests made before after tally
+judged_by style file tests made replies slice before after tally is same h =
+    subst (λ (m : CallReplies). Tells style file tests m before after tally) (sym is)
+    (subst (λ (x : List Reply). Judges style file tests x before after tally) same h)
 
 pub replies_there : (count : ℕ) (made : CallReplies) (replies : Vec Reply Global) (slice : List Reply)
     → made ≡ Answered replies → slice ≡ replies.items → HasReplies count made → count ≡ length slice

@@ -2,8 +2,10 @@ pub mod Bodies
 pub mod Courses
 pub mod Files
 pub mod Fronts
+pub mod Joins
 pub mod Judges
 pub mod Taught
 pub mod Tests
 pub mod Told
+pub mod Trials
 pub mod Verdicts

@@ -1,10 +1,12 @@
 -- What lessons teach, and how learning ends.
 use Rattle.std.proofs.Common.{◌≡◌, ℕ, List, map, Option, Some, None, Result, Ok, Err, refl, sym, subst, inl, inr, ◌⊎◌}
-use Rattle.std.specs.Prelude.{IfErr, IfOk, IfSome}
+use Rattle.std.proofs.Common.{◌∙◌, Bool, false, true}
+use Rattle.std.specs.Prelude.{IfErr, IfNone, IfOk, IfSome}
 use Rattle.std.specs.Io.KnownBytes.{Appends}
-use Rattle.std.specs.List.{AllZip}
+use Rattle.std.specs.List.{AllZip, list_all}
 use Rattle.ll_seq.specs.declared.reply.Entry.{Entry}
 use Rattle.ll_audit.specs.Saved.{opened}
+use Rattle.ll_learn.specs.declared.fault.Unlearned.{Unlearned}
 use Rattle.ll_learn.specs.declared.fault.Unlearned.TheVariants.{NoNode}
 use Rattle.ll_learn.specs.declared.learned.Aim.{Aim}
 use Rattle.ll_learn.specs.declared.profile.LearnedProfile.{LearnedProfile}
@@ -14,15 +16,16 @@ use Rattle.ll_wire.specs.declared.header.Header.{Header}
 use Rattle.ll_program.specs.Options.{LearnOrder}
 use Rattle.ll_program.specs.Policy.{header_of}
 use Rattle.ll_program.specs.declared.checked.Checked.{Checked}
-use Rattle.ll_program.specs.declared.checked.Checked.TheVariants.{BadLine, Passed}
+use Rattle.ll_program.specs.declared.checked.Checked.TheVariants.{BadLine, Failed, Passed}
 use Rattle.ll_program.specs.declared.failure.Failure.{Failure}
 use Rattle.ll_program.specs.declared.failure.Failure.TheVariants.{CommandLine, NoMemory, Output}
 use Rattle.ll_check.specs.declared.checks.NamedText.{NamedText}
 use Rattle.ll_check.specs.declared.checks.ReadFile.{ReadFile}
 use Rattle.ll_check.specs.declared.reading.CheckFault.{CheckFault}
 use Rattle.ll_check.specs.declared.reading.CheckFault.TheVariants as faults
-use Rattle.ll_check.specs.Files.{HasBadLine, IsReadAs, Source, Tests, source_of, tests_of}
-use Rattle.ll_check.specs.Lessons.{Course, EndsLessons, FailsToLearn, HasWrongWord, IsProfile, IsTaughtBy, lessons_of}
+use Rattle.ll_check.specs.Files.{HasBadLine, IsReadAs, Source, Tests, has_test, source_of, tests_of}
+use Rattle.ll_check.specs.Lessons.{Course, EndsLessons, FailsToLearn, HasWrongWord, IsHindered, IsProfile, IsTaughtBy}
+use Rattle.ll_check.specs.Lessons.{TeachNothing, is_of_lessons, lessons_of}
 use Rattle.ll_check.proofs.Files.{all_read}
 
 -- ---- what is learned
@@ -37,12 +40,12 @@ module _ (order : LearnOrder) (policy : List ℕ) (lessons : List Tests) (c : Co
       (subst (λ (x : List (List Entry)). IsLearned (opened header) x c.aim profile) e
       (subst (λ (x : Aim). IsLearned (opened header) histories x profile) a is))
 
-  is_unlearned : (path : ℕ) → IsUnlearned (opened header) histories aim (NoNode path)
-      → IsUnlearned (opened (header_of c.blank)) c.histories c.aim (NoNode path)
-  is_unlearned path is =
-      subst (λ (x : Header). IsUnlearned (opened x) c.histories c.aim (NoNode path)) h
-      (subst (λ (x : List (List Entry)). IsUnlearned (opened header) x c.aim (NoNode path)) e
-      (subst (λ (x : Aim). IsUnlearned (opened header) histories x (NoNode path)) a is))
+  is_unlearned : (why : Unlearned) → IsUnlearned (opened header) histories aim why
+      → IsUnlearned (opened (header_of c.blank)) c.histories c.aim why
+  is_unlearned why is =
+      subst (λ (x : Header). IsUnlearned (opened x) c.histories c.aim why) h
+      (subst (λ (x : List (List Entry)). IsUnlearned (opened header) x c.aim why) e
+      (subst (λ (x : Aim). IsUnlearned (opened header) histories x why) a is))
 
   pub taught_so : (r : Result (Option LearnedProfile) Failure)
       → IfOk r (λ found. IfSome found (IsLearned (opened header) histories aim))
@@ -56,8 +59,16 @@ module _ (order : LearnOrder) (policy : List ℕ) (lessons : List Tests) (c : Co
       × IsUnlearned (opened header) histories aim (NoNode path)) ⊎ (failure ≡ NoMemory))
       → IfErr r (FailsToLearn order policy lessons)
   untaught_so (Ok found) is = tt
-  untaught_so (Err failure) (inl is) = inl (is.0, inl (c, is.1, is_unlearned is.1 is.2))
+  untaught_so (Err failure) (inl is) = inl (is.0, inl (c, is.1, is_unlearned (NoNode is.1) is.2))
   untaught_so (Err failure) (inr is) = inr (inr (inr is))
+
+  pub nothing_so : (r : Result (Option LearnedProfile) Failure)
+      → IfOk r (λ found. IfNone found ((why : Unlearned) × (is_of_lessons why ≡ true)
+      × IsUnlearned (opened header) histories aim why))
+      → IfOk r (λ found. IfNone found (TeachNothing order policy lessons))
+  nothing_so (Err failure) is = tt
+  nothing_so (Ok (Some profile)) is = tt
+  nothing_so (Ok None) is = inr (c, is.0, is.1, is_unlearned is.0 is.2)
 
 -- ---- how it ends
 
@@ -89,6 +100,19 @@ module _ (order : LearnOrder) (policy : List ℕ) (out : Option (List ℕ)) wher
       )),
       refl,
     )
+
+    pub hindered : IsHindered order policy (map tests_of all)
+        → EndsLessons order policy (map source_of texts) out out (Ok Failed)
+    hindered is = (
+      map tests_of files,
+      all_read texts files read,
+      subst (λ (x : List ReadFile). IsHindered order policy (map tests_of x)) same is,
+      refl,
+    )
+
+    pub untested : (tested : Bool) → tested ≡ list_all has_test (map tests_of all) → tested ≡ false
+        → EndsLessons order policy (map source_of texts) out out (Ok Failed)
+    untested tested so none = hindered (inl (sym so ∙ none))
 
     pub written : (text : List ℕ) (out' : Option (List ℕ)) → IsProfile order policy (map tests_of all) text
         → Appends out out' text → EndsLessons order policy (map source_of texts) out out' (Ok Passed)

@@ -9,18 +9,23 @@ use Rattle.ll_program.specs.declared.checked.Checked.{Checked}
 use Rattle.ll_program.specs.declared.failure.Failure.{Failure}
 use Rattle.ll_program.specs.declared.failure.Failure.TheVariants.{File}
 use Rattle.ll_program.specs.Sources.{named, text_in}
-use Rattle.ll_check.specs.Files.{IsCheck, MayFail, Source}
+use Rattle.ll_check.specs.Files.{HasBegun, IsCheck, MayFail, Source}
+use Rattle.ll_wire.specs.Transcript.{Writes}
 
 -- the file with this name, with its text if that is known
 abbrev pub IsSource : (texts : Option (List ℕ) → Option (List ℕ)) → List ℕ → Source → Type 0
 IsSource texts name source = (source.name ≡ name) × IfSome (texts (named name)) (λ told. source.text ≡ told)
 
--- the result of a check of the files that the words name, if the policy's file has this text
+-- a check of the files that the words name has this result and text, if the policy's file has that one
+abbrev pub IsCheckOf : (texts : Option (List ℕ) → Option (List ℕ)) → CheckOrder → (policy : List ℕ) → Checked
+    → (written : List ℕ) → Type 0
+IsCheckOf texts order policy end written =
+    (sources : List Source) × AllZip (IsSource texts) order.files sources × IsCheck order policy sources end written
+
+-- the result of such a check
 abbrev pub IsCheckedUnder : (texts : Option (List ℕ) → Option (List ℕ)) → CheckOrder → (policy : List ℕ) → Checked
     → Type 0
-IsCheckedUnder texts order policy end =
-    (sources : List Source) × (written : List ℕ) × AllZip (IsSource texts) order.files sources
-    × IsCheck order policy sources end written
+IsCheckedUnder texts order policy end = (written : List ℕ) × IsCheckOf texts order policy end written
 
 -- the text of the policy that the words name, if one is named and its text is known
 abbrev pub IsPolicyText : (texts : Option (List ℕ) → Option (List ℕ)) → (named : Option (List ℕ)) → List ℕ → Type 0
@@ -32,11 +37,19 @@ FailsCheck texts order File = ⊤
 FailsCheck texts order failure =
     (policy : List ℕ) × IsPolicyText texts order.policy policy × MayFail order policy failure
 
--- a check ends as the tests of its files say, by the policy that the words name
-abbrev pub EndsCheck : (texts : Option (List ℕ) → Option (List ℕ)) → CheckOrder → Result Conclusion Failure → Type 0
-EndsCheck texts order (Ok Done) = ⊥
-EndsCheck texts order (Ok (Stopped stopped)) = ⊥
-EndsCheck texts order (Ok (Judged verdict)) = ⊥
-EndsCheck texts order (Ok (conclusion.Checked end)) =
-    (policy : List ℕ) × IsPolicyText texts order.policy policy × IsCheckedUnder texts order policy end
-EndsCheck texts order (Err failure) = FailsCheck texts order failure
+-- what it then has written
+abbrev pub BeginsCheck : (texts : Option (List ℕ) → Option (List ℕ)) → CheckOrder → (out out' : Option (List ℕ))
+    → Failure → Type 0
+BeginsCheck texts order out out' failure =
+    (policy : List ℕ) × IsPolicyText texts order.policy policy
+    × HasBegun (IsCheckOf texts order policy) out out' failure
+
+-- a check ends as the tests of its files say, by the policy that the words name, and its reports are written
+abbrev pub EndsCheck : (texts : Option (List ℕ) → Option (List ℕ)) → CheckOrder → (out out' : Option (List ℕ))
+    → Result Conclusion Failure → Type 0
+EndsCheck texts order out out' (Ok Done) = ⊥
+EndsCheck texts order out out' (Ok (Stopped stopped)) = ⊥
+EndsCheck texts order out out' (Ok (Judged verdict)) = ⊥
+EndsCheck texts order out out' (Ok (conclusion.Checked end)) =
+    (policy : List ℕ) × IsPolicyText texts order.policy policy × Writes out out' (IsCheckOf texts order policy end)
+EndsCheck texts order out out' (Err failure) = FailsCheck texts order failure × BeginsCheck texts order out out' failure

@@ -1,11 +1,12 @@
 -- What a check of files does, what it writes, and how it ends. own
 use Rattle.std.specs.Prelude.{◌≡◌, ◌⊎◌, ℕ, ◌+◌, ◌==◌, ◌&&◌, Bool, true, List, [], ◌∷◌, ◌++◌, Some, None, length, map}
-use Rattle.std.specs.Prelude.{false, codes, decimal, min, slice_get, is_some, if◌then◌else◌}
+use Rattle.std.specs.Prelude.{Option, false, codes, decimal, min, slice_get, is_some, if◌then◌else◌}
 use Rattle.std.specs.List.{AllZip, list_all}
 use Rattle.std.specs.Option.{option_map_or}
 use Rattle.ll_rights.specs.declared.limits.TheConstants.{HISTORY_ENTRIES}
 use Rattle.ll_seq.specs.declared.reply.Entry.{Entry}
 use Rattle.ll_wire.specs.Pieces.{pieces}
+use Rattle.ll_wire.specs.Writing.{AppendsFront}
 use Rattle.ll_session.specs.declared.calls_run.CallReplies.{CallReplies}
 use Rattle.ll_session.specs.declared.fault.RunFault.{RunFault}
 use Rattle.ll_session.specs.declared.setup.Setup.{Setup}
@@ -13,18 +14,21 @@ use Rattle.ll_session.specs.Run.{MayEnd}
 use Rattle.ll_program.specs.Options.{CheckOrder, checked_tree}
 use Rattle.ll_program.specs.declared.checked.Checked.{Checked}
 use Rattle.ll_program.specs.declared.checked.Checked.TheVariants.{BadLine, Failed, Passed}
+use Rattle.ll_program.specs.declared.report.ReportForm.{ReportForm}
+use Rattle.ll_program.specs.declared.report.ReportForm.TheVariants as form
 use Rattle.ll_program.specs.declared.failure.Failure.{Failure}
 use Rattle.ll_program.specs.declared.failure.Failure.TheVariants.{NoMemory, Output}
 use Rattle.ll_program.specs.Failure.{failure_of}
 use Rattle.ll_program.specs.Policy.{IsSetup, Lacks}
 use Rattle.ll_check.specs.declared.checks.NamedText.{NamedText}
 use Rattle.ll_check.specs.declared.checks.ReadFile.{ReadFile}
-use Rattle.ll_check.specs.declared.judging.Detail.{Detail}
-use Rattle.ll_check.specs.declared.judging.Detail.TheVariants.{Quiet, Usual, Verbose}
+use Rattle.ll_check.specs.declared.judging.Style.{Style}
+use Rattle.ll_check.specs.declared.judging.Style.TheVariants.{Quiet, Usual, Verbose, Tap, Junit, Json}
 use Rattle.ll_check.specs.declared.judging.Tally.{Tally}
 use Rattle.ll_check.specs.declared.reading.Test.{Test}
 use Rattle.ll_check.specs.Checks.{AreTests, IsFirstBad}
 use Rattle.ll_check.specs.Report.{IsChecked}
+use Rattle.ll_check.specs.Styles.{head, tail}
 
 -- ---- files, and their tests
 
@@ -66,14 +70,21 @@ IsSetFor order policy tests setup = IsSetup (checked_tree order (room_for setup 
 
 -- ---- how files are checked
 
-abbrev pub detail_of : CheckOrder → Detail
-detail_of order = if order.quiet then Quiet else (if order.verbose then Verbose else Usual)
+-- the style of this form; a text's is the given one
+abbrev pub styled : Option ReportForm → (text : Style) → Style
+styled (Some form.Tap) text = Tap
+styled (Some form.Junit) text = Junit
+styled (Some form.Json) text = Json
+styled _ text = text
+
+abbrev pub style_of : CheckOrder → Style
+style_of order = styled order.form (if order.quiet then Quiet else (if order.verbose then Verbose else Usual))
 
 -- a file's tests are made in a tree of its own, with this setup, and are reported and counted
 abbrev pub IsFileChecked : CheckOrder → (policy : List ℕ) → Tests → (before after : List ℕ) → Tally → Type 0
 IsFileChecked order policy file before after tally =
     (setup : Setup) × (made : CallReplies) × (entries : List Entry) × IsSetFor order policy (length file.tests) setup
-    × IsChecked (detail_of order) setup file.name file.tests made entries before after tally
+    × IsChecked (style_of order) setup file.name file.tests made entries before after tally
 
 -- the files are checked one after the other, each report follows the one before it, and this is the sum
 abbrev pub AreChecked : CheckOrder → (policy : List ℕ) → List Tests → (before after : List ℕ) → (sum : Tally) → Type 0
@@ -83,19 +94,15 @@ AreChecked order policy (file ∷ files) before after sum =
     × AreChecked order policy files mid after rest
     × (sum.passed ≡ tally.passed + rest.passed) × (sum.failed ≡ tally.failed + rest.failed)
 
--- the line of the sum
-abbrev pub sum_line : Tally → List ℕ
-sum_line sum = decimal sum.passed ++ codes " passed, " ++ decimal sum.failed ++ codes " failed\n"
-
 -- passed exactly if each file has a test and none fails
 abbrev pub end_of : List Tests → (sum : Tally) → Checked
 end_of files sum = if list_all has_test files && (sum.failed == 0) then Passed else Failed
 
--- the files are checked, the reports and the sum's line are written, and this is the result
+-- the files are checked, the reports are written with the sum, and this is the result
 abbrev pub Concludes : CheckOrder → (policy : List ℕ) → List Tests → Checked → (written : List ℕ) → Type 0
 Concludes order policy files end written =
     (report : List ℕ) × (sum : Tally) × AreChecked order policy files [] report sum
-    × (written ≡ report ++ sum_line sum) × (end ≡ end_of files sum)
+    × (written ≡ head (style_of order) sum ++ report ++ tail (style_of order) sum) × (end ≡ end_of files sum)
 
 -- A check of these files, if the policy's file has this text. If a line is neither silent nor a test, nothing is run or
 -- written
@@ -112,6 +119,13 @@ MayFail order policy failure =
     ⊎ ((tests : ℕ) × (setup : Setup) × (fault : RunFault) × IsSetFor order policy tests setup × MayEnd setup fault
     × (failure ≡ failure_of fault))
     ⊎ (failure ≡ Output) ⊎ (failure ≡ NoMemory)
+
+-- what files that aren't checked to the end leave written: nothing, or a prefix of a report if the output fails
+abbrev pub HasBegun : (IsReport : Checked → List ℕ → Type 0) → (out out' : Option (List ℕ)) → Failure → Type 0
+HasBegun IsReport out out' failure =
+    (out' ≡ out)
+    ⊎ ((failure ≡ Output) × (end : Checked) × (written : List ℕ) × IsReport end written
+    × AppendsFront out out' written)
 
 -- ---- parts, which no public contract cites
 

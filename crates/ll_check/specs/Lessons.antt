@@ -1,18 +1,22 @@
 -- What is learned from files of checks, and what is written about it. own
-use Rattle.std.specs.Prelude.{◌≡◌, ◌⊎◌, ◌<◌, ◌≤◌, ◌-◌, ℕ, true, not, is_some, List, [], Option, Some, None, Result}
-use Rattle.std.specs.Prelude.{Ok, Err, codes, length, map, slice_get, if◌then◌else◌}
-use Rattle.std.specs.List.{AllByRecursion, AllZip, filter, list_all}
+use Rattle.std.specs.Prelude.{⊤, ◌≡◌, ◌⊎◌, ◌<◌, ◌≤◌, ◌-◌, ℕ, Bool, true, false, not, is_some, List, [], Option}
+use Rattle.std.specs.Prelude.{Some, None, Result, Ok, Err, codes, length, map, slice_get, take, if◌then◌else◌}
+use Rattle.std.specs.List.{AllByRecursion, AllZip, filter, list_all, list_any}
 use Rattle.std.specs.Option.{option_map_or}
 use Rattle.std.specs.declared.alloc.Global.{Global}
 use Rattle.std.specs.declared.vec.Vec.{Vec}
 use Rattle.ll_rights.specs.Access.{known_set}
+use Rattle.ll_rights.specs.declared.errno.Errno.TheVariants as errno
 use Rattle.ll_rights.specs.declared.limits.TheConstants.{HISTORY_ENTRIES}
 use Rattle.ll_path.specs.Path.{path_of_text}
 use Rattle.ll_seq.specs.declared.call.Call.{Call}
 use Rattle.ll_seq.specs.declared.reply.Entry.{Entry}
 use Rattle.ll_seq.specs.declared.reply.Reply.{Reply}
+use Rattle.ll_seq.specs.declared.reply.Reply.TheVariants as reply
 use Rattle.ll_audit.specs.Saved.{opened}
+use Rattle.ll_learn.specs.declared.fault.Unlearned.{Unlearned}
 use Rattle.ll_learn.specs.declared.fault.Unlearned.TheVariants.{NoNode}
+use Rattle.ll_learn.specs.declared.fault.Unlearned.TheVariants as fault
 use Rattle.ll_learn.specs.declared.learned.Aim.{Aim}
 use Rattle.ll_learn.specs.declared.needs.Origin.{Origin}
 use Rattle.ll_learn.specs.declared.profile.LearnedProfile.{LearnedProfile}
@@ -24,9 +28,8 @@ use Rattle.ll_session.specs.CallsRun.{Makes}
 use Rattle.ll_session.specs.Run.{MayEnd}
 use Rattle.ll_session.specs.declared.calls_run.CallReplies.{CallReplies}
 use Rattle.ll_session.specs.declared.calls_run.CallReplies.TheVariants.{Answered, Refused}
-use Rattle.ll_session.specs.declared.fault.RunFault.{RunFault}
+use Rattle.ll_session.specs.declared.fault.RunFault.TheVariants as run
 use Rattle.ll_session.specs.declared.setup.Setup.{Setup}
-use Rattle.ll_program.specs.Failure.{failure_of}
 use Rattle.ll_program.specs.Learn.{IsWithheld, most_rules, profile_name}
 use Rattle.ll_program.specs.Options.{LearnOrder, lesson_tree}
 use Rattle.ll_program.specs.Paths.{HasBadWord}
@@ -34,11 +37,11 @@ use Rattle.ll_program.specs.Policy.{IsSetup, Lacks, header_of}
 use Rattle.ll_program.specs.declared.checked.Checked.{Checked}
 use Rattle.ll_program.specs.declared.checked.Checked.TheVariants.{BadLine, Failed, Passed}
 use Rattle.ll_program.specs.declared.failure.Failure.{Failure}
-use Rattle.ll_program.specs.declared.failure.Failure.TheVariants.{CommandLine, NoMemory, Output}
+use Rattle.ll_program.specs.declared.failure.Failure.TheVariants.{CommandLine, File, NoMemory, Opening, Output}
 use Rattle.ll_check.specs.declared.lessons.FileLessons.{FileLessons}
 use Rattle.ll_check.specs.declared.reading.Test.{Test}
 use Rattle.ll_check.specs.Files.{AreTestsOf, HasBadLine, Source, Tests, has_test, room_for}
-use Rattle.ll_check.specs.Report.{heading}
+use Rattle.ll_check.specs.Report.{AreJudged, Judged, heading}
 use Rattle.ll_check.specs.Wanted.{Satisfies, is_allowed, wants_denial}
 
 -- ---- Trees
@@ -132,6 +135,95 @@ pub record IsProfile (order : LearnOrder) (policy : List ℕ) (files : List Test
   pub named : profile_name order ≡ Some name
   pub text : written ≡ profile_text (lesson_note (map lessons_of files)) name profile
 
+-- ---- Why there is no profile
+
+abbrev pub is_no_memory : Reply → Bool
+is_no_memory (reply.Refused errno.NoMemory) = true
+is_no_memory other = false
+
+-- memory ran out for a call
+abbrev pub ran_out : CallReplies → Bool
+ran_out (Answered replies) = list_any is_no_memory replies.items
+ran_out (Refused reply) = is_no_memory reply
+
+-- In a tree with these calls of the first client, the tests get these replies, or the tree isn't opened. Memory doesn't
+-- run out
+pub record AreRun (order : LearnOrder) (policy : List ℕ) (calls : List Call) (tests : List Test) (made : CallReplies)
+    : Type 0 where
+  pub setup : Setup
+  pub entries : List Entry
+  pub tree : IsTree order policy calls (length tests) setup
+  pub makes : Makes setup (map (λ test. test.call) tests) made entries
+  pub enough : ran_out made ≡ false
+
+-- the first lesson that doesn't get a reply that it must get; its line is `lesson.line`
+pub record HasUnmet (lessons : List Test) (replies : List Reply) : Type 0 where
+  pub index : ℕ
+  pub before : AllZip IsLearnedFrom (take index lessons) (take index replies)
+  pub lesson : Test
+  pub is : slice_get lessons index ≡ Some lesson
+  pub reply : Reply
+  pub gets : slice_get replies index ≡ Some reply
+  pub unmet : IsLearnedFrom lesson reply → ⊥
+
+-- there is one, or the tree isn't opened
+abbrev pub AreUnmet : List Test → CallReplies → Type 0
+AreUnmet lessons (Answered replies) = HasUnmet lessons replies.items
+AreUnmet lessons (Refused reply) = ⊤
+
+-- with nobody under a layer, a file's lessons aren't answered as they say
+pub record IsUnmet (order : LearnOrder) (policy : List ℕ) (lessons : Tests) : Type 0 where
+  pub made : CallReplies
+  pub run : AreRun order policy [] lessons.tests made
+  pub unmet : AreUnmet lessons.tests made
+
+-- the fault is neither a path of the words nor missing memory
+abbrev pub is_of_lessons : Unlearned → Bool
+is_of_lessons (NoNode path) = false
+is_of_lessons fault.NoMemory = false
+is_of_lessons other = true
+
+-- that is so of the file with some index
+abbrev pub HasUnmetFile : LearnOrder → (policy : List ℕ) → (lessons : List Tests) → Type 0
+HasUnmetFile order policy lessons =
+    (index : ℕ) × (file : Tests) × (slice_get lessons index ≡ Some file) × IsUnmet order policy file
+
+-- A file's lessons aren't answered as they say. Or all are, and nothing is learned from them by such a fault, which
+-- says why
+abbrev pub TeachNothing : LearnOrder → (policy : List ℕ) → (lessons : List Tests) → Type 0
+TeachNothing order policy lessons =
+    HasUnmetFile order policy lessons
+    ⊎ ((c : Course order policy lessons) × (why : Unlearned) × (is_of_lessons why ≡ true)
+    × IsUnlearned (opened (header_of c.blank)) c.histories c.aim why)
+
+-- A file's tests, made with the profile's layer, get these verdicts; or the tree isn't opened
+abbrev pub IsTried : LearnOrder → (policy : List ℕ) → LearnedProfile → Tests → Result (List Judged) Reply → Type 0
+IsTried order policy profile file (Ok verdicts) = (replies : Vec Reply Global)
+    × AreRun order policy (calls_of profile) file.tests (Answered replies)
+    × AreJudged file.tests replies.items verdicts
+IsTried order policy profile file (Err reply) =
+    AreRun order policy (calls_of profile) file.tests (Refused reply)
+
+abbrev pub is_passed : Result (List Judged) Reply → Bool
+is_passed (Ok verdicts) = list_all (λ it. it.passes) verdicts
+is_passed (Err reply) = false
+
+-- The files are tried like this, each in a tree of its own. The tests whose verdicts don't pass are those that are
+-- missed. passes: whether none is
+pub record AreTried (order : LearnOrder) (policy : List ℕ) (profile : LearnedProfile) (files : List Tests)
+    (passes : Bool) : Type 0 where
+  pub trials : List (Result (List Judged) Reply)
+  pub tried : AllZip (IsTried order policy profile) files trials
+  pub all : passes ≡ list_all is_passed trials
+
+-- Why the files give no profile. One has no test; or the lessons teach nothing; or they teach a profile with few enough
+-- rules, under which some test is missed
+abbrev pub IsHindered : LearnOrder → (policy : List ℕ) → (files : List Tests) → Type 0
+IsHindered order policy files =
+    (list_all has_test files ≡ false) ⊎ TeachNothing order policy (map lessons_of files)
+    ⊎ ((profile : LearnedProfile) × IsTaughtBy order policy (map lessons_of files) profile
+    × (length profile.rules.items ≤ most_rules order) × AreTried order policy profile files false)
+
 -- ---- How it ends
 
 -- the words give no valid name of a profile, no rights, or no path
@@ -146,12 +238,13 @@ IsOutside order policy lessons =
     ⊎ ((profile : LearnedProfile) × IsTaughtBy order policy lessons profile
     × (most_rules order < length profile.rules.items))
 
--- why the trees of files aren't opened, or their tests aren't made to the end
+-- Why the trees of files aren't opened. The policy's text gives no setup (it is there, so it can be read); or a call of
+-- its loader is refused
 abbrev pub FailsToMake : LearnOrder → (policy : List ℕ) → Failure → Type 0
 FailsToMake order policy failure =
-    ((is_some order.policy ≡ true) × Lacks (lesson_tree order HISTORY_ENTRIES) policy failure)
-    ⊎ ((calls : List Call) × (tests : ℕ) × (setup : Setup) × (fault : RunFault)
-    × IsTree order policy calls tests setup × MayEnd setup fault × (failure ≡ failure_of fault))
+    ((is_some order.policy ≡ true) × Lacks (lesson_tree order HISTORY_ENTRIES) policy failure × (failure ≡ File → ⊥))
+    ⊎ ((failure ≡ Opening) × (calls : List Call) × (tests : ℕ) × (setup : Setup)
+    × IsTree order policy calls tests setup × MayEnd setup run.Opening)
     ⊎ (failure ≡ NoMemory)
 
 -- why nothing is learned from lessons
@@ -167,12 +260,13 @@ IsReason order policy sources failure =
     × FailsToLearn order policy (map lessons_of files) failure)
     ⊎ (failure ≡ NoMemory)
 
--- A profile is written. Otherwise nothing is, or a prefix of it if the output fails
+-- A profile is written. Otherwise nothing is, and this says why; or a prefix of it if the output fails
 abbrev pub EndsLessons : LearnOrder → (policy : List ℕ) → List Source → (out out' : Option (List ℕ))
     → Result Checked Failure → Type 0
 EndsLessons order policy sources out out' (Ok Passed) = (files : List Tests) × AllZip AreTestsOf sources files
     × Writes out out' (IsProfile order policy files)
-EndsLessons order policy sources out out' (Ok Failed) = out' ≡ out
+EndsLessons order policy sources out out' (Ok Failed) =
+    (files : List Tests) × AllZip AreTestsOf sources files × IsHindered order policy files × (out' ≡ out)
 EndsLessons order policy sources out out' (Ok BadLine) = HasBadLine sources × (out' ≡ out)
 EndsLessons order policy sources out out' (Err failure) =
     (IsReason order policy sources failure × (out' ≡ out))
@@ -184,6 +278,11 @@ EndsLessons order policy sources out out' (Err failure) =
 -- a file's lessons, as they are picked
 abbrev pub picked : FileLessons → Tests
 picked file = record { name = file.name.now; tests = map (λ t. t.now) file.tests.items }
+
+-- a file is tried, and this says whether all its tests pass
+abbrev pub HasTrial : LearnOrder → (policy : List ℕ) → LearnedProfile → Tests → (passes : Bool) → Type 0
+HasTrial order policy profile file passes =
+    (trial : Result (List Judged) Reply) × IsTried order policy profile file trial × (passes ≡ is_passed trial)
 
 -- each lesson gets a reply that it must get
 abbrev pub AreMet : List Test → CallReplies → Type 0

@@ -4,4 +4,5 @@ pub mod Files
 pub mod Lessons
 pub mod Replied
 pub mod Report
+pub mod Styles
 pub mod Wanted

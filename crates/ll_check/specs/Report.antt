@@ -5,15 +5,18 @@ use Rattle.std.specs.List.{AllByRecursion, count_by, flat_map}
 use Rattle.ll_seq.specs.declared.reply.Entry.{Entry}
 use Rattle.ll_seq.specs.declared.reply.Reply.{Reply}
 use Rattle.ll_wire.specs.Grammar.{reply_line}
+use Rattle.ll_wire.specs.Terminal.{escaped}
 use Rattle.ll_session.specs.CallsRun.{Makes, call_line}
 use Rattle.ll_session.specs.declared.calls_run.CallReplies.{CallReplies}
 use Rattle.ll_session.specs.declared.calls_run.CallReplies.TheVariants.{Answered, Refused}
 use Rattle.ll_session.specs.declared.setup.Setup.{Setup}
-use Rattle.ll_check.specs.declared.judging.Detail.{Detail}
-use Rattle.ll_check.specs.declared.judging.Detail.TheVariants as detail
+use Rattle.ll_check.specs.declared.judging.Style.{Style}
+use Rattle.ll_check.specs.declared.judging.Style.TheVariants.{Quiet, Usual, Verbose, Tap, Junit, Json}
 use Rattle.ll_check.specs.declared.judging.Tally.{Tally}
 use Rattle.ll_check.specs.declared.reading.Test.{Test}
 use Rattle.ll_check.specs.declared.wanted.Wanted.{Wanted}
+use Rattle.ll_check.specs.Checks.{body_of}
+use Rattle.ll_check.specs.Styles.{Texts, json_test, junit_test, tap_test}
 use Rattle.ll_check.specs.Wanted.{Satisfies, wanted_text}
 
 -- ---- verdicts
@@ -53,38 +56,49 @@ heading file test = file ++ codes ":" ++ decimal test.line ++ codes ": " ++ call
 abbrev pub expected : Wanted → List ℕ
 expected wanted = codes "expected " ++ (wanted_text wanted ++ codes "\n")
 
--- a passed test is shown only if everything is; a failed one unless nothing is
-abbrev pub shows : Detail → Bool → Bool
-shows detail.Quiet passes = false
-shows detail.Usual true = false
-shows detail.Usual false = true
-shows detail.Verbose passes = true
+-- a test as lines of text
+abbrev pub plain : List ℕ → Judged → List ℕ
+plain file it =
+    heading file it.test ++ (if it.passes then [] else expected it.test.wanted) ++ (codes "got " ++ reply_line it.reply)
 
-abbrev pub shown : Detail → List ℕ → Judged → List ℕ
-shown detail file it =
-    if shows detail it.passes
-    then heading file it.test ++ (if it.passes then [] else expected it.test.wanted)
-    ++ (codes "got " ++ reply_line it.reply)
-    else []
+-- a test as texts, without line feeds; the file's name is printed
+abbrev pub texts : List ℕ → Judged → Texts
+texts file it =
+    record {
+      file = escaped file;
+      line = decimal it.test.line;
+      command = body_of (call_line it.test.call);
+      wanted = body_of (wanted_text it.test.wanted ++ codes "\n");
+      got = body_of (reply_line it.reply);
+      passes = it.passes;
+    }
+
+abbrev pub shown : Style → List ℕ → Judged → List ℕ
+shown Quiet file it = []
+shown Usual file it = if it.passes then [] else plain file it
+shown Verbose file it = plain file it
+shown Tap file it = tap_test (texts file it)
+shown Junit file it = junit_test (texts file it)
+shown Json file it = json_test (texts file it)
 
 -- ---- a whole file
 
 -- the tests are judged by their replies, the report on them is appended, and this many pass and fail
-abbrev pub Judges : Detail → (file : List ℕ) → List Test → List Reply → (before after : List ℕ) → Tally → Type 0
-Judges detail file tests replies before after tally =
+abbrev pub Judges : Style → (file : List ℕ) → List Test → List Reply → (before after : List ℕ) → Tally → Type 0
+Judges style file tests replies before after tally =
     (verdicts : List Judged) × AreJudged tests replies verdicts
-    × (after ≡ before ++ flat_map (shown detail file) verdicts)
+    × (after ≡ before ++ flat_map (shown style file) verdicts)
     × (tally.passed ≡ passed verdicts) × (tally.failed ≡ failed verdicts)
 
 -- The report on tests after their calls were made. A refused profile counts as one failed test; no definition says how
 -- that is reported
-abbrev pub Tells : Detail → (file : List ℕ) → List Test → CallReplies → (before after : List ℕ) → Tally → Type 0
-Tells detail file tests (Answered replies) before after tally =
-    Judges detail file tests replies.items before after tally
-Tells detail file tests (Refused reply) before after tally = (tally.passed ≡ 0) × (tally.failed ≡ 1)
+abbrev pub Tells : Style → (file : List ℕ) → List Test → CallReplies → (before after : List ℕ) → Tally → Type 0
+Tells style file tests (Answered replies) before after tally =
+    Judges style file tests replies.items before after tally
+Tells style file tests (Refused reply) before after tally = (tally.passed ≡ 0) × (tally.failed ≡ 1)
 
 -- the tests' calls are made with this setup, which leaves these entries, and the tests are reported and counted
-abbrev pub IsChecked : Detail → Setup → (file : List ℕ) → List Test → CallReplies → List Entry
+abbrev pub IsChecked : Style → Setup → (file : List ℕ) → List Test → CallReplies → List Entry
     → (before after : List ℕ) → Tally → Type 0
-IsChecked detail setup file tests made entries before after tally =
-    Makes setup (map (λ test. test.call) tests) made entries × Tells detail file tests made before after tally
+IsChecked style setup file tests made entries before after tally =
+    Makes setup (map (λ test. test.call) tests) made entries × Tells style file tests made before after tally

@@ -6,17 +6,55 @@ ghost use Rattle.ll_check.specs.Report.{IsChecked, Tells};
 ghost use Rattle.ll_check.specs.Replied.{HasReplies};
 ghost use Rattle.ll_wire.specs.Entries.{IsEntry};
 
-use crate::judging::{Detail, Reporter, Tally};
+use crate::judging::{Reporter, Style, Tally};
+use crate::lines::body_of;
 use crate::reading::Test;
-use crate::refusing::push_refusal;
+use crate::refusing::{push_refusal, refusal_text};
 use crate::running::make;
-use ll_seq::History;
+use crate::styles::{Syntax, TestTexts};
+use ll_seq::{Entry, History, Reply};
 use ll_session::{CallReplies, RunFault, Setup};
-use ll_wire::SessionFault;
+use ll_wire::{SessionFault, escaped};
 use std::alloc::AllocError;
 use std::sync::Wait;
 
+// Returns the syntax of a report that isn't lines of text.
+fn syntax_of(style: Style) -> Option<Syntax> {
+    match style {
+        Style::Quiet | Style::Usual | Style::Verbose => None,
+        Style::Tap => Some(Syntax::Tap),
+        Style::Junit => Some(Syntax::Xml),
+        Style::Json => Some(Syntax::Json),
+    }
+}
+
 impl Reporter<'_> {
+    // Appends that the profile is refused, as a test that fails, unless no test is shown.
+    fn push_refused(
+        &self,
+        out: &mut Vec<u8>,
+        entries: &[Entry],
+        refusal: &Reply,
+    ) -> Result<(), AllocError> {
+        if self.style == Style::Quiet {
+            return Ok(());
+        }
+        let Some(syntax) = syntax_of(self.style) else {
+            return push_refusal(out, self.alloc, self.file, entries, refusal);
+        };
+        let line = refusal_text(self.alloc, entries, refusal)?;
+        let file = escaped(self.alloc, self.file)?;
+        let texts = TestTexts {
+            file: file.as_bytes(),
+            line: b"0",
+            command: b"profile",
+            wanted: b"accepted",
+            got: body_of(line.as_bytes()),
+            passes: false,
+        };
+        texts.push_in(out, syntax)
+    }
+
     // Appends the report on the tests.
     fn report(
         &self,
@@ -27,14 +65,12 @@ impl Reporter<'_> {
     ) -> Result<Tally, AllocError>
         requires entries { All IsEntry history.now.entries }
         requires replies { HasReplies (length tests.now) made.now }
-        ensures { IfOk result (Tells self.now.detail self.now.file.now tests.now made.now out.old.items out.new.items) }
+        ensures { IfOk result (Tells self.now.style self.now.file.now tests.now made.now out.old.items out.new.items) }
     {
         match made {
             CallReplies::Answered(replies) => self.judge(out, tests, replies.as_slice()),
             CallReplies::Refused(reply) => {
-                if self.detail != Detail::Quiet {
-                    push_refusal(out, self.alloc, self.file, history.entries(), reply)?;
-                }
+                self.push_refused(out, history.entries(), reply)?;
                 Ok(Tally {
                     passed: 0,
                     failed: 1,
@@ -62,7 +98,7 @@ pub fn check_file<R: Wait>(
     setup: Setup,
     tests: &[Test],
 ) -> Result<CheckedFile, RunFault>
-    ensures checked { IfOk result (λ checked. IsChecked reporter.now.detail setup reporter.now.file.now tests.now
+    ensures checked { IfOk result (λ checked. IsChecked reporter.now.style setup reporter.now.file.now tests.now
         checked.made checked.history.entries out.old.items out.new.items checked.tally) }
     ensures fault { IfErr result (λ fault. MayEnd setup fault) }
 {

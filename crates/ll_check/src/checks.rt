@@ -8,13 +8,14 @@ ghost use Rattle.ll_wire.specs.Transcript.{Writes};
 ghost use Rattle.ll_program.specs.Options.{checked_in};
 ghost use Rattle.ll_program.specs.declared.checked.Checked as checked;
 ghost use Rattle.ll_check.specs.Files.{AreChecked, Concludes, HasBadLine, IsCheck, IsFileChecked, IsReadAs, IsSetFor};
-ghost use Rattle.ll_check.specs.Files.{MayFail};
-ghost use Rattle.ll_check.specs.Files.{detail_of, end_of, has_test, room_for, source_of, sum_line, tests_of};
+ghost use Rattle.ll_check.specs.Files.{HasBegun, MayFail};
+ghost use Rattle.ll_check.specs.Files.{end_of, has_test, room_for, source_of, style_of, tests_of};
+ghost use Rattle.ll_check.specs.Styles.{head, tail};
 
 use crate::{
-    CheckFault, Checks, Detail, LinesOf, Notes, Reporter, Tally, check_file, explain, tell_denied,
+    CheckFault, Checks, LinesOf, Notes, Reporter, Style, Tally, check_file, explain, tell_denied,
 };
-use ll_program::{CheckOptions, Checked, Failure, header_of, setup_of};
+use ll_program::{CheckOptions, Checked, Failure, ReportForm, header_of, setup_of, write_bytes};
 use ll_rights::limits::HISTORY_ENTRIES;
 use ll_session::Setup;
 use std::alloc::{AllocError, Global};
@@ -138,15 +139,16 @@ fn setup_for(
     }
 }
 
-fn detail_of(options: &CheckOptions) -> Detail
-    ensures { result ≡ detail_of (checked_in options.now) }
+fn style_of(options: &CheckOptions) -> Style
+    ensures { result ≡ style_of (checked_in options.now) }
 {
-    if options.quiet {
-        Detail::Quiet
-    } else if options.verbose {
-        Detail::Verbose
-    } else {
-        Detail::Usual
+    match options.form {
+        Some(ReportForm::Tap) => Style::Tap,
+        Some(ReportForm::Junit) => Style::Junit,
+        Some(ReportForm::Json) => Style::Json,
+        Some(ReportForm::Text) | None if options.quiet => Style::Quiet,
+        Some(ReportForm::Text) | None if options.verbose => Style::Verbose,
+        Some(ReportForm::Text) | None => Style::Usual,
     }
 }
 
@@ -168,14 +170,14 @@ fn check_one<R: Wait, N: Notes>(
     let header = header_of(&setup);
     let reporter = Reporter {
         alloc,
-        detail: detail_of(input.options),
+        style: style_of(input.options),
         file: file.name.as_bytes(),
     };
     let checked = match check_file(rt, report, &reporter, setup, tests) {
         Ok(checked) => checked,
         Err(fault) => return Err(Failure::of_run(fault)),
     };
-    if reporter.detail != Detail::Quiet && notes.are_wanted() {
+    if reporter.style != Style::Quiet && notes.are_wanted() {
         tell_denied(notes, &reporter, &header, tests, &checked);
     }
     Ok(checked.tally)
@@ -230,18 +232,6 @@ fn check_all<R: Wait, N: Notes>(
     Ok(sum)
 }
 
-// Appends the line with how many tests pass and fail.
-fn push_sum(report: &mut Vec<u8>, alloc: Global, sum: Tally) -> Result<(), AllocError>
-    ensures { OnOk result (report.new.items ≡ report.old.items ++ sum_line sum) }
-{
-    let passed = sum.passed.to_string(alloc)?;
-    let failed = sum.failed.to_string(alloc)?;
-    report.extend_from_slice(passed.as_bytes())?;
-    report.extend_from_slice(b" passed, ")?;
-    report.extend_from_slice(failed.as_bytes())?;
-    report.extend_from_slice(b" failed\n")
-}
-
 fn are_tested(files: &[ReadFile<'_>]) -> bool
     ensures { result ≡ list_all (λ file. has_test (tests_of file)) files.now }
 {
@@ -285,6 +275,22 @@ fn end_of(files: &[ReadFile<'_>], sum: Tally) -> Checked
     }
 }
 
+// Returns the whole of a report on tests, of which so many pass and fail.
+fn report_around(
+    alloc: Global,
+    style: Style,
+    tests: &[u8],
+    sum: Tally,
+) -> Result<Vec<u8>, AllocError>
+    ensures { IfOk result (λ report. report.items ≡ head style sum ++ tests.now ++ tail style sum) }
+{
+    let mut report = Vec::new(alloc);
+    style.push_head(&mut report, alloc, sum)?;
+    report.extend_from_slice(tests)?;
+    style.push_tail(&mut report, alloc, sum)?;
+    Ok(report)
+}
+
 // Checks the files that were read, and writes the report.
 fn conclude<R: Wait, W: Write, N: Notes>(
     rt: &R,
@@ -297,16 +303,19 @@ fn conclude<R: Wait, W: Write, N: Notes>(
     ensures checked { IfOk result (λ end. Writes (W.contents out.old) (W.contents out.new)
         (Concludes (checked_in input.now.options.now) input.now.policy.now (map tests_of files.now) end)) }
     ensures failure { IfErr result (MayFail (checked_in input.now.options.now) input.now.policy.now) }
+    ensures begun { IfErr result (HasBegun
+        (Concludes (checked_in input.now.options.now) input.now.policy.now (map tests_of files.now))
+        (W.contents out.old) (W.contents out.new)) }
 {
-    let mut report = Vec::new(alloc);
-    let sum = check_all(rt, alloc, input, files, &mut report, notes)?;
-    if push_sum(&mut report, alloc, sum).is_err() {
+    let mut tests = Vec::new(alloc);
+    let sum = check_all(rt, alloc, input, files, &mut tests, notes)?;
+    let Ok(report) = report_around(alloc, style_of(input.options), tests.as_slice(), sum) else {
         return Err(Failure::NoMemory);
+    };
+    match write_bytes(report.as_slice(), out) {
+        Ok(()) => Ok(end_of(files, sum)),
+        Err(failure) => Err(failure),
     }
-    if out.write_all(report.as_slice()).is_err() {
-        return Err(Failure::Output);
-    }
-    Ok(end_of(files, sum))
 }
 
 // Prints where a file's line is neither silent nor a test, and what is expected there.
@@ -362,6 +371,9 @@ pub fn check<R: Wait, W: Write, E: Write, N: Notes>(
     ensures checked { IfOk result (λ end. Writes (W.contents out.old) (W.contents out.new)
         (IsCheck (checked_in input.now.options.now) input.now.policy.now (map source_of input.now.files.now) end)) }
     ensures failure { IfErr result (MayFail (checked_in input.now.options.now) input.now.policy.now) }
+    ensures begun { IfErr result (HasBegun
+        (IsCheck (checked_in input.now.options.now) input.now.policy.now (map source_of input.now.files.now))
+        (W.contents out.old) (W.contents out.new)) }
 {
     let files = match read_all(alloc, input.files) {
         Ok(files) => files,

@@ -3,10 +3,23 @@
 
 use crate::lines::body_of;
 use crate::wanted::verdict_of;
+use ll_policy::rights_meant;
 use ll_rights::limits::WORD_BYTES;
 use ll_rights::{Access, Errno, Kind, Right};
 use ll_wire::{LINE_LIMIT, read_first_words, split_line};
 use std::alloc::{AllocError, Global};
+
+/// What is expected in place of words that are like no right's name.
+const ALL_RIGHTS: &str =
+    "rights are expected, of execute,write_file,read_file,read_dir,remove_dir,remove_file,\
+    make_char,make_dir,make_reg,make_sock,make_fifo,make_block,make_sym,refer,truncate in this order";
+
+/// What is expected after the client of a schedule's step.
+const VERBS: &str =
+    "begin, fd, step or do with a call is expected, or descend, fork, commit or restart";
+
+/// What some editors write before the first line.
+const BYTE_ORDER_MARK: &[u8] = b"\xef\xbb\xbf";
 
 /// The kind of text that a line is in, which decides what it may say.
 #[derive(Clone, Copy, Debug, PartialEq, Eq)]
@@ -15,6 +28,8 @@ pub enum LinesOf {
     Script,
     /// A file of checks, which also has comments, and replies after the sign `=`.
     Checks,
+    /// A schedule: each line is a step.
+    Schedule,
     /// A word of the command line: one command of the only client, without a line feed.
     Word,
 }
@@ -23,6 +38,7 @@ impl LinesOf {
     fn command_text(self, column: usize) -> &'static str {
         match self {
             LinesOf::Checks if column == 1 => "a command is expected, or a comment",
+            LinesOf::Schedule if column == 1 => "a step is expected: connect, or a client as @1",
             _ => "a command is expected",
         }
     }
@@ -31,12 +47,13 @@ impl LinesOf {
         match self {
             LinesOf::Word => "a command is expected, without a client in front",
             LinesOf::Script | LinesOf::Checks => "a client is expected: @2 to @64",
+            LinesOf::Schedule => "a client is expected: @1 to @64",
         }
     }
 
     fn end_text(self) -> &'static str {
         match self {
-            LinesOf::Script => "the line's end is expected",
+            LinesOf::Script | LinesOf::Schedule => "the line's end is expected",
             LinesOf::Checks => "the line's end is expected, or = and a reply",
             LinesOf::Word => "the command's end is expected",
         }
@@ -45,7 +62,8 @@ impl LinesOf {
     // Reports whether such a line may name a client.
     fn names_client(self, token: &str) -> bool {
         match self {
-            LinesOf::Script | LinesOf::Checks => is_client(token),
+            LinesOf::Script | LinesOf::Checks => is_client(token, 2),
+            LinesOf::Schedule => is_client(token, 1),
             LinesOf::Word => false,
         }
     }
@@ -181,23 +199,38 @@ fn is_word(token: &str) -> bool {
     token.len() <= WORD_BYTES && is_printed(token)
 }
 
-fn is_client(token: &str) -> bool {
+// Reports whether the token names a client, the least of which has this number.
+fn is_client(token: &str, least: u64) -> bool {
     match token.strip_prefix('@') {
-        Some(number) if is_number(number) => matches!(number.parse::<u64>(), Ok(2..=64)),
+        Some(number) if is_number(number) => match number.parse::<u64>() {
+            Ok(number) => least <= number && number <= 64,
+            Err(_) => false,
+        },
         _ => false,
     }
 }
 
-// Returns the set of these rights in its spelling, if each of the words is a right.
-fn meant(alloc: Global, token: &str) -> Result<Option<String>, AllocError> {
-    let mut rights = Access(0);
+// Returns the column of the first of these names that no right has, if one has none.
+fn strange_column(column: usize, token: &str) -> Option<usize> {
+    let mut column = column;
     for name in token.split(',') {
-        let Some(right) = Right::parse(name) else {
-            return Ok(None);
-        };
-        rights = rights.with(right.access());
+        if Right::parse(name).is_none() {
+            return Some(column);
+        }
+        column = column.saturating_add(name.len()).saturating_add(1);
     }
-    Ok(Some(rights.text(alloc)?))
+    None
+}
+
+// Blames a word that isn't a set of rights.
+fn blame_rights(alloc: Global, column: usize, token: &str) -> Result<Blame, AllocError> {
+    let column = strange_column(column, token).unwrap_or(column);
+    let mut blame = Blame::new(column, Argument::Rights.text());
+    match rights_meant(alloc, token)? {
+        Some(meant) => blame.meant = Some(meant.text(alloc)?),
+        None => blame.expected = ALL_RIGHTS,
+    }
+    Ok(blame)
 }
 
 // Blames a word that isn't the argument expected here.
@@ -207,11 +240,10 @@ fn blame_argument(
     argument: Argument,
     token: &str,
 ) -> Result<Blame, AllocError> {
-    let mut blame = Blame::new(column, argument.text_for(token));
-    if let Argument::Rights = argument {
-        blame.meant = meant(alloc, token)?;
+    match argument {
+        Argument::Rights => blame_rights(alloc, column, token),
+        _ => Ok(Blame::new(column, argument.text_for(token))),
     }
-    Ok(blame)
 }
 
 /// A place between two words of a line.
@@ -219,10 +251,23 @@ fn blame_argument(
 enum Stage<'a> {
     /// After nothing but a client's name.
     Start,
+    /// After the client of a schedule's step.
+    Verb,
+    /// After a step that has no call.
+    End,
     /// After this many arguments of this command.
     Arguments(&'a str, usize),
     /// After the command and the sign `=`.
     Reply,
+}
+
+// Returns the place after a step's verb.
+fn after_verb<'a>(verb: &str) -> Option<Stage<'a>> {
+    match verb {
+        "begin" | "fd" | "step" | "do" => Some(Stage::Start),
+        "descend" | "fork" | "commit" | "restart" => Some(Stage::End),
+        _ => None,
+    }
 }
 
 // Returns the place after a valid word, or the blame.
@@ -235,11 +280,23 @@ fn step<'a>(
 ) -> Result<Result<Stage<'a>, Blame>, AllocError> {
     match stage {
         Stage::Start if column == 1 && token.starts_with('@') => {
-            if of.names_client(token) {
-                return Ok(Ok(Stage::Start));
+            if !of.names_client(token) {
+                return Ok(Err(Blame::new(column, of.client_text())));
             }
-            Ok(Err(Blame::new(column, of.client_text())))
+            match of {
+                LinesOf::Schedule => Ok(Ok(Stage::Verb)),
+                LinesOf::Script | LinesOf::Checks | LinesOf::Word => Ok(Ok(Stage::Start)),
+            }
         }
+        Stage::Start if column == 1 && of == LinesOf::Schedule => match token {
+            "connect" => Ok(Ok(Stage::End)),
+            _ => Ok(Err(Blame::new(column, of.command_text(column)))),
+        },
+        Stage::Verb => match after_verb(token) {
+            Some(next) => Ok(Ok(next)),
+            None => Ok(Err(Blame::new(column, VERBS))),
+        },
+        Stage::End => Ok(Err(Blame::new(column, of.end_text()))),
         Stage::Start => match count_of(token) {
             Some(_) => Ok(Ok(Stage::Arguments(token, 0))),
             None => Ok(Err(Blame::new(column, of.command_text(column)))),
@@ -297,12 +354,17 @@ fn blame_reply(alloc: Global, column: usize, reply: &str) -> Result<Blame, Alloc
 // Returns what is wrong with a line that spells this command, which ends at this column, with its line feed or without.
 fn blame_whole(of: LinesOf, command: &str, column: usize, is_ended: bool) -> Option<Blame> {
     match of {
-        LinesOf::Script if !is_ended => Some(Blame::new(column, "a line feed is expected")),
+        LinesOf::Script | LinesOf::Schedule if !is_ended => {
+            Some(Blame::new(column, "a line feed is expected"))
+        }
         LinesOf::Script if command.starts_with('@') => {
             Some(Blame::new(1, "a client that was spawned is expected"))
         }
+        LinesOf::Schedule if command.starts_with('@') => {
+            Some(Blame::new(1, "a client that has come is expected"))
+        }
         LinesOf::Word if is_ended => Some(Blame::new(column, of.end_text())),
-        LinesOf::Script | LinesOf::Checks | LinesOf::Word => None,
+        LinesOf::Script | LinesOf::Checks | LinesOf::Schedule | LinesOf::Word => None,
     }
 }
 
@@ -316,6 +378,8 @@ fn blame_end(
 ) -> Option<Blame> {
     match stage {
         Stage::Start => Some(Blame::new(column, of.command_text(column))),
+        Stage::Verb => Some(Blame::new(column, VERBS)),
+        Stage::End => blame_whole(of, text, column, is_ended),
         Stage::Arguments(name, place) if Some(place) == count_of(name) => {
             blame_whole(of, text, column, is_ended)
         }
@@ -369,6 +433,20 @@ fn is_too_long(of: LinesOf, body: &[u8]) -> bool {
     body.len() >= LINE_LIMIT && !of.has_replies()
 }
 
+// Blames what an editor has added to the line with this number.
+fn blame_editor(body: &[u8], number: usize) -> Option<Blame> {
+    if number == 1 && body.starts_with(BYTE_ORDER_MARK) {
+        return Some(Blame::new(1, "a file without a byte order mark is expected"));
+    }
+    if body.ends_with(b"\r") {
+        return Some(Blame::new(
+            body.len(),
+            "a line feed is expected, without a carriage return before it",
+        ));
+    }
+    None
+}
+
 /// Returns what is wrong with a text's line with this number, from 1, that is neither silent nor a command or test.
 /// None if nothing is found, or there is no such line.
 pub fn explain(
@@ -384,6 +462,9 @@ pub fn explain(
     let body = body_of(line);
     if is_too_long(of, body) {
         return Ok(Some(Blame::new(LINE_LIMIT, "a line of at most 16384 bytes is expected")));
+    }
+    if let Some(blame) = blame_editor(body, number) {
+        return Ok(Some(blame));
     }
     match str::from_utf8(body) {
         Ok(words) => explain_text(alloc, of, words, body.len() < line.len()),

@@ -4,34 +4,32 @@ ghost use Rattle.std.specs.Prelude.{◌≡◌, ◌+◌, ◌-◌, ◌++◌, ◌<�
 ghost use Rattle.std.specs.Prelude.{if◌then◌else◌};
 ghost use Rattle.ll_wire.specs.Grammar.{reply_line};
 ghost use Rattle.ll_session.specs.CallsRun.{call_line};
-ghost use Rattle.ll_check.specs.Report.{Judges, expected, heading, judged, shown, shows};
+ghost use Rattle.ll_check.specs.Report.{Judges, expected, heading, judged, plain, shown, texts};
+ghost use Rattle.ll_check.specs.Styles.{test_in};
 
+use crate::lines::body_of;
 use crate::reading::Test;
+use crate::styles::{Syntax, TestTexts};
 use crate::wanted::{Wanted, push_wanted};
 use ll_seq::Reply;
 use ll_session::reply_line;
-use ll_wire::{command_text, is_spelled};
+use ll_wire::{command_text, escaped, is_spelled};
 use std::alloc::{AllocError, Global};
 
-/// Which tests are shown.
+/// The style of a report: lines of text on fewer or more of the tests, or all tests for other programs.
 #[derive(Clone, Copy, Debug, PartialEq, Eq)]
-pub enum Detail {
+pub enum Style {
+    /// No test.
     Quiet,
     /// Those that fail.
     Usual,
     Verbose,
-}
-
-impl Detail {
-    fn shows(self, passes: bool) -> bool
-        ensures { result ≡ shows self passes }
-    {
-        match self {
-            Detail::Quiet => false,
-            Detail::Usual => !passes,
-            Detail::Verbose => true,
-        }
-    }
+    /// TAP, version 14.
+    Tap,
+    /// JUnit's XML.
+    Junit,
+    /// An object of JSON for each test, on a line of its own.
+    Json,
 }
 
 /// The number of tests that pass, and of those that fail.
@@ -100,15 +98,62 @@ impl Tally {
     }
 }
 
-/// Reports on the tests of this file, in this detail.
+/// Reports on the tests of this file, in this style.
 #[derive(Clone, Copy)]
 pub struct Reporter<'a> {
     pub alloc: Global,
-    pub detail: Detail,
+    pub style: Style,
     pub file: &'a [u8],
 }
 
 impl Reporter<'_> {
+    // Appends what is shown of a test as lines of text.
+    fn push_plain(
+        &self,
+        out: &mut Vec<u8>,
+        test: &Test,
+        passes: bool,
+        reply: &Reply,
+    ) -> Result<(), AllocError>
+        ensures { OnOk result (out.new.items ≡ out.old.items
+            ++ plain self.now.file.now (judged test.now reply.now passes)) }
+    {
+        push_heading(out, self.alloc, self.file, test)?;
+        if !passes {
+            push_expected(out, self.alloc, &test.wanted)?;
+        }
+        push_got(out, self.alloc, reply)
+    }
+
+    // Appends a test in this syntax.
+    fn push_in(
+        &self,
+        out: &mut Vec<u8>,
+        syntax: Syntax,
+        test: &Test,
+        passes: bool,
+        reply: &Reply,
+    ) -> Result<(), AllocError>
+        ensures { OnOk result (out.new.items ≡ out.old.items
+            ++ test_in syntax (texts self.now.file.now (judged test.now reply.now passes))) }
+    {
+        let file = escaped(self.alloc, self.file)?;
+        let line = test.line.to_string(self.alloc)?;
+        let command = command_of(self.alloc, test)?;
+        let got = reply_line(self.alloc, reply)?;
+        let mut wanted = Vec::new(self.alloc);
+        push_wanted(&mut wanted, self.alloc, &test.wanted)?;
+        let texts = TestTexts {
+            file: file.as_bytes(),
+            line: line.as_bytes(),
+            command: body_of(command.as_bytes()),
+            wanted: body_of(wanted.as_slice()),
+            got: body_of(got.as_bytes()),
+            passes,
+        };
+        texts.push_in(out, syntax)
+    }
+
     /// Appends what is shown of a test, if it is shown.
     pub(crate) fn push_shown(
         &self,
@@ -118,16 +163,16 @@ impl Reporter<'_> {
         reply: &Reply,
     ) -> Result<(), AllocError>
         ensures { OnOk result (out.new.items ≡ out.old.items
-            ++ shown self.now.detail self.now.file.now (judged test.now reply.now passes)) }
+            ++ shown self.now.style self.now.file.now (judged test.now reply.now passes)) }
     {
-        if !self.detail.shows(passes) {
-            return Ok(());
+        match self.style {
+            Style::Quiet => Ok(()),
+            Style::Usual if passes => Ok(()),
+            Style::Usual | Style::Verbose => self.push_plain(out, test, passes, reply),
+            Style::Tap => self.push_in(out, Syntax::Tap, test, passes, reply),
+            Style::Junit => self.push_in(out, Syntax::Xml, test, passes, reply),
+            Style::Json => self.push_in(out, Syntax::Json, test, passes, reply),
         }
-        push_heading(out, self.alloc, self.file, test)?;
-        if !passes {
-            push_expected(out, self.alloc, &test.wanted)?;
-        }
-        push_got(out, self.alloc, reply)
     }
 
     /// Judges a file's tests by their replies, and appends the report on them.
@@ -138,7 +183,7 @@ impl Reporter<'_> {
         replies: &[Reply],
     ) -> Result<Tally, AllocError>
         requires { length tests.now ≡ length replies.now }
-        ensures { IfOk result (Judges self.now.detail self.now.file.now tests.now replies.now
+        ensures { IfOk result (Judges self.now.style self.now.file.now tests.now replies.now
             out.old.items out.new.items) }
     {
         let mut tally = Tally {

@@ -1,18 +1,19 @@
 //! What is learned from files of checks.
 
 ghost use Rattle.std.specs.Prelude.{◌≡◌, ◌≤◌, ◌<◌, ◌⊎◌, ℕ, true, false, Some, length, map, string_bytes, IfErr, IfOk};
-ghost use Rattle.std.specs.Prelude.{IfSome};
+ghost use Rattle.std.specs.Prelude.{IfNone, IfSome};
 ghost use Rattle.std.specs.List.{list_all};
 ghost use Rattle.ll_audit.specs.Saved.{opened};
 ghost use Rattle.ll_learn.specs.Learned.{IsLearned, IsUnlearned};
+ghost use Rattle.ll_learn.specs.declared.fault.Unlearned as fault;
 ghost use Rattle.ll_learn.specs.declared.fault.Unlearned.TheVariants as faults;
 ghost use Rattle.ll_rights.specs.declared.limits.TheConstants.{TREE_NODES};
 ghost use Rattle.ll_path.specs.Path.{path_of_text};
 ghost use Rattle.ll_program.specs.Learn.{IsWithheld, most_rules, profile_name};
 ghost use Rattle.ll_program.specs.Options.{learn_in};
 ghost use Rattle.ll_check.specs.Files.{has_test, source_of, tests_of};
-ghost use Rattle.ll_check.specs.Lessons.{EndsLessons, FailsToLearn, HasWrongWord, IsProfile, IsTaughtBy, learner};
-ghost use Rattle.ll_check.specs.Lessons.{lessons_of, picked};
+ghost use Rattle.ll_check.specs.Lessons.{EndsLessons, FailsToLearn, HasWrongWord, IsHindered, IsProfile, IsTaughtBy};
+ghost use Rattle.ll_check.specs.Lessons.{TeachNothing, is_of_lessons, learner, lessons_of, picked};
 
 use crate::checks::{NamedText, ReadFile, have_tests, read_all, tell_bad, tell_untested};
 use crate::denied::Notes;
@@ -102,6 +103,13 @@ fn entries_of<'a>(alloc: Global, histories: &'a [History]) -> Result<Vec<&'a [En
     Ok(entries)
 }
 
+// Reports whether the fault is neither a path of the words nor missing memory.
+fn is_of_lessons(fault: Unlearned) -> bool
+    ensures { result ≡ is_of_lessons fault }
+{
+    !matches!(fault, Unlearned::NoNode(_) | Unlearned::NoMemory)
+}
+
 // Learns from the histories of lessons. None if nothing is learned, which is printed.
 fn learned_from<E: Write>(
     alloc: Global,
@@ -114,18 +122,23 @@ fn learned_from<E: Write>(
     requires most { header.now.nodes ≤ TREE_NODES }
     ensures learned { IfOk result (λ found. IfSome found
         (IsLearned (opened header.now) (map (λ h. h.now) taught.now.histories.now) aim.now)) }
+    ensures nothing { IfOk result (λ found. IfNone found ((why : fault.Unlearned) × (is_of_lessons why ≡ true)
+        × IsUnlearned (opened header.now) (map (λ h. h.now) taught.now.histories.now) aim.now why)) }
     ensures failure { IfErr result (λ failure. ((failure ≡ Failure.CommandLine) × (path : ℕ)
         × IsUnlearned (opened header.now) (map (λ h. h.now) taught.now.histories.now) aim.now (faults.NoNode path))
         ⊎ (failure ≡ Failure.NoMemory)) }
 {
-    match learn(alloc, header, taught.histories, aim) {
-        Ok(profile) => Ok(Some(profile)),
-        Err(Unlearned::NoMemory) => Err(Failure::NoMemory),
-        Err(Unlearned::NoNode(_)) => Err(Failure::CommandLine),
-        Err(fault) => {
-            taught.tell(alloc, fault, aim, err);
-            Ok(None)
-        }
+    let fault = match learn(alloc, header, taught.histories, aim) {
+        Ok(profile) => return Ok(Some(profile)),
+        Err(fault) => fault,
+    };
+    if is_of_lessons(fault) {
+        taught.tell(alloc, fault, aim, err);
+        return Ok(None);
+    }
+    match fault {
+        Unlearned::NoNode(_) => Err(Failure::CommandLine),
+        _ => Err(Failure::NoMemory),
     }
 }
 
@@ -141,6 +154,8 @@ fn taught_by<R: Wait, E: Write>(
     requires beneath { request.now.beneath.items ≡ map path_of_text (learn_in trees.now.options.now).beneath }
     ensures taught { IfOk result (λ found. IfSome found
         (IsTaughtBy (learn_in trees.now.options.now) trees.now.policy.now (map picked lessons.now))) }
+    ensures nothing { IfOk result (λ found. IfNone found
+        (TeachNothing (learn_in trees.now.options.now) trees.now.policy.now (map picked lessons.now))) }
     ensures failure { IfErr result
         (FailsToLearn (learn_in trees.now.options.now) trees.now.policy.now (map picked lessons.now)) }
 {
@@ -205,6 +220,8 @@ fn text_of<R: Wait, E: Write, N: Notes>(
     requires tested { list_all has_test (map tests_of files.now) ≡ true }
     ensures profile { IfOk result (λ found. IfSome found (λ text. IsProfile (learn_in trees.now.options.now)
         trees.now.policy.now (map tests_of files.now) (string_bytes text))) }
+    ensures hindered { IfOk result (λ found. IfNone found
+        (IsHindered (learn_in trees.now.options.now) trees.now.policy.now (map tests_of files.now))) }
     ensures failure { IfErr result (FailsToLearn (learn_in trees.now.options.now) trees.now.policy.now
         (map lessons_of (map tests_of files.now))) }
 {

@@ -78,7 +78,26 @@ pub fn profile_call_text(
     format!(in alloc; "{place}: {answered}")
 }
 
-/// Appends that a profile is refused: at which of its calls, and with which reply. No contract says how.
+/// Returns a line on a profile that is refused: at which of its calls, and with which reply. Errors: memory ran out. No
+/// contract says how.
+pub fn refusal_text(
+    alloc: Global,
+    entries: &[Entry],
+    refusal: &Reply,
+) -> Result<String, AllocError> {
+    let mut progress = ProfileProgress::at_connect();
+    for entry in entries {
+        progress = progress.after(&entry.call);
+    }
+    match entries.last() {
+        Some(Entry { call, reply, .. }) if is_refused(reply) => {
+            profile_call_text(alloc, progress, call, reply)
+        }
+        _ => reply_line(alloc, refusal),
+    }
+}
+
+/// Appends a line on a profile that is refused, behind the file's name. Errors: memory ran out. No contract says how.
 pub fn push_refusal(
     out: &mut Vec<u8>,
     alloc: Global,
@@ -86,20 +105,8 @@ pub fn push_refusal(
     entries: &[Entry],
     refusal: &Reply,
 ) -> Result<(), AllocError> {
+    let line = refusal_text(alloc, entries, refusal)?;
     out.extend_from_slice(file)?;
     out.extend_from_slice(b": profile refused: ")?;
-    let mut progress = ProfileProgress::at_connect();
-    for entry in entries {
-        progress = progress.after(&entry.call);
-    }
-    match entries.last() {
-        Some(Entry { call, reply, .. }) if is_refused(reply) => {
-            let told = profile_call_text(alloc, progress, call, reply)?;
-            out.extend_from_slice(told.as_bytes())
-        }
-        _ => {
-            let line = reply_line(alloc, refusal)?;
-            out.extend_from_slice(line.as_bytes())
-        }
-    }
+    out.extend_from_slice(line.as_bytes())
 }

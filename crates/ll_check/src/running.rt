@@ -1,12 +1,16 @@
 //! Makes tests.
 
-ghost use Rattle.std.specs.Prelude.{◌≡◌, All, map, IfErr, IfOk};
+ghost use Rattle.std.specs.Prelude.{◌≡◌, ◌⊎◌, All, map, IfErr, IfOk};
+ghost use Rattle.std.specs.List.{list_any};
 ghost use Rattle.ll_session.specs.CallsRun.{Makes};
 ghost use Rattle.ll_session.specs.Run.{MayEnd};
 ghost use Rattle.ll_wire.specs.Entries.{IsEntry};
+ghost use Rattle.ll_check.specs.Lessons.{is_no_memory, ran_out};
 
 use crate::reading::Test;
-use ll_seq::History;
+use ll_program::Failure;
+use ll_rights::Errno;
+use ll_seq::{History, Reply};
 use ll_session::{CallReplies, ClientCall, RunFault, Setup, run_calls};
 use ll_wire::SessionFault;
 use std::alloc::{AllocError, Global};
@@ -67,5 +71,37 @@ pub(crate) fn make_lessons<R: Wait>(
     match calls_of_lessons(alloc, lessons) {
         Ok(calls) => run_calls(rt, alloc, setup, calls),
         Err(_) => Err(RunFault::Session(SessionFault::NoMemory)),
+    }
+}
+
+/// Returns the failure for a fault of such a run, which reads and writes no file.
+pub(crate) fn failure_of(fault: RunFault) -> Failure
+    ensures { ((result ≡ Failure.Opening) × (fault ≡ RunFault.Opening)) ⊎ (result ≡ Failure.NoMemory) }
+{
+    match fault {
+        RunFault::Opening => Failure::Opening,
+        RunFault::Session(_) => Failure::NoMemory,
+    }
+}
+
+fn is_no_memory(reply: &Reply) -> bool
+    ensures { result ≡ is_no_memory reply.now }
+{
+    matches!(reply, Reply::Refused(Errno::NoMemory))
+}
+
+fn have_no_memory(replies: &[Reply]) -> bool
+    ensures { result ≡ list_any is_no_memory replies.now }
+{
+    replies.iter().any(|reply| is_no_memory(reply))
+}
+
+/// Reports whether memory ran out for a call.
+pub(crate) fn ran_out(made: &CallReplies) -> bool
+    ensures { result ≡ ran_out made.now }
+{
+    match made {
+        CallReplies::Answered(replies) => have_no_memory(replies.as_slice()),
+        CallReplies::Refused(reply) => is_no_memory(reply),
     }
 }

@@ -1,15 +1,17 @@
 //! Makes lessons.
 
-ghost use Rattle.std.specs.Prelude.{◌≡◌, ◌↔◌, true, map, IfErr, IfOk, IfSome, IsTrue};
+ghost use Rattle.std.specs.Prelude.{◌≡◌, ◌↔◌, true, false, length, map, IfErr, IfNone, IfOk, IfSome, IsTrue};
 ghost use Rattle.std.specs.List.{AllZip};
 ghost use Rattle.ll_program.specs.Options.{learn_in};
-ghost use Rattle.ll_check.specs.Lessons.{AreMet, AreTaught, FailsToMake, IsLearnedFrom, picked};
+ghost use Rattle.ll_check.specs.Lessons.{AreMet, AreTaught, AreUnmet, FailsToMake, HasUnmet, HasUnmetFile};
+ghost use Rattle.ll_check.specs.Lessons.{IsLearnedFrom, IsUnmet, picked};
+ghost use Rattle.ll_check.specs.Replied.{HasReplies};
 
-use crate::judging::{Detail, Reporter};
+use crate::judging::{Reporter, Style};
 use crate::lessons::FileLessons;
 use crate::reading::Test;
 use crate::refusing::push_refusal;
-use crate::running::make_lessons;
+use crate::running::{failure_of, make_lessons, ran_out};
 use crate::trees::Trees;
 use crate::wanted::is_allowed;
 use ll_program::Failure;
@@ -59,11 +61,10 @@ fn are_met<E: Write>(
     replies: &[Reply],
     err: &mut E,
 ) -> bool
-    ensures { result ≡ true → AllZip IsLearnedFrom (map (λ t. t.now) lessons.now) replies.now }
+    requires { length lessons.now ≡ length replies.now }
+    ensures met { result ≡ true → AllZip IsLearnedFrom (map (λ t. t.now) lessons.now) replies.now }
+    ensures unmet { result ≡ false → HasUnmet (map (λ t. t.now) lessons.now) replies.now }
 {
-    if lessons.len() != replies.len() {
-        return false;
-    }
     for i in 0..lessons.len() {
         let lesson = lessons[i];
         let reply = &replies[i];
@@ -83,7 +84,9 @@ fn are_answered<E: Write>(
     history: &History,
     err: &mut E,
 ) -> bool
-    ensures { result ≡ true → AreMet (map (λ t. t.now) lessons.now) made.now }
+    requires { HasReplies (length lessons.now) made.now }
+    ensures met { result ≡ true → AreMet (map (λ t. t.now) lessons.now) made.now }
+    ensures unmet { result ≡ false → AreUnmet (map (λ t. t.now) lessons.now) made.now }
 {
     match made {
         CallReplies::Answered(replies) => are_met(reporter, lessons, replies.as_slice(), err),
@@ -104,6 +107,8 @@ fn teach<R: Wait, E: Write>(
 ) -> Result<Option<History>, Failure>
     ensures taught { IfOk result (λ found. IfSome found (λ history.
         AreTaught (learn_in trees.now.options.now) trees.now.policy.now (picked file.now) history.entries)) }
+    ensures unmet { IfOk result (λ found. IfNone found
+        (IsUnmet (learn_in trees.now.options.now) trees.now.policy.now (picked file.now))) }
     ensures failure { IfErr result (FailsToMake (learn_in trees.now.options.now) trees.now.policy.now) }
 {
     let lessons = file.tests.as_slice();
@@ -113,11 +118,14 @@ fn teach<R: Wait, E: Write>(
     };
     let (made, history) = match make_lessons(rt, trees.alloc, setup, lessons) {
         Ok(done) => done,
-        Err(fault) => return Err(Failure::of_run(fault)),
+        Err(fault) => return Err(failure_of(fault)),
     };
+    if ran_out(&made) {
+        return Err(Failure::NoMemory);
+    }
     let reporter = Reporter {
         alloc: trees.alloc,
-        detail: Detail::Usual,
+        style: Style::Usual,
         file: file.name.as_bytes(),
     };
     if are_answered(&reporter, lessons, &made, &history, err) {
@@ -138,6 +146,8 @@ pub(crate) fn teach_all<R: Wait, E: Write>(
     ensures taught { IfOk result (λ found. IfSome found (λ histories.
         AllZip (AreTaught (learn_in trees.now.options.now) trees.now.policy.now)
         (map picked files.now) (map (λ history. history.entries) histories.items))) }
+    ensures unmet { IfOk result (λ found. IfNone found
+        (HasUnmetFile (learn_in trees.now.options.now) trees.now.policy.now (map picked files.now))) }
     ensures failure { IfErr result (FailsToMake (learn_in trees.now.options.now) trees.now.policy.now) }
 {
     let mut histories = Vec::new(trees.alloc);

@@ -1,8 +1,10 @@
 //! The trees in which lessons are made, and profiles are tried.
 
-ghost use Rattle.std.specs.Prelude.{◌≡◌, IfErr, IfOk};
+ghost use Rattle.std.specs.Prelude.{◌≡◌, ◌⊎◌, is_some, true, IfErr, IfOk};
+ghost use Rattle.ll_rights.specs.declared.limits.TheConstants.{HISTORY_ENTRIES};
 ghost use Rattle.ll_session.specs.Session.{AreOthers};
-ghost use Rattle.ll_program.specs.Options.{learn_in};
+ghost use Rattle.ll_program.specs.Options.{learn_in, lesson_tree};
+ghost use Rattle.ll_program.specs.Policy.{Lacks};
 ghost use Rattle.ll_check.specs.Lessons.{FailsToMake, IsBlank, IsTree};
 
 use crate::checks::with_room;
@@ -31,17 +33,40 @@ fn with_profile(mut setup: Setup, profile: Vec<Call>) -> Setup
     setup
 }
 
+// Returns the failure of a text that is in memory, so that it can be read.
+fn in_memory(failure: Failure) -> Failure
+    ensures file { result ≡ Failure.File → ⊥ }
+    ensures same { (result ≡ failure) ⊎ (result ≡ Failure.NoMemory) }
+{
+    match failure {
+        Failure::File => Failure::NoMemory,
+        other => other,
+    }
+}
+
 impl Trees<'_, '_> {
+    // Returns the setup that the policy gives, or why it gives none.
+    fn given(&self) -> Result<Setup, Failure>
+        ensures setup { IfOk result (IsBlank (learn_in self.now.options.now) self.now.policy.now) }
+        ensures failure { IfErr result (λ failure. (is_some (learn_in self.now.options.now).policy ≡ true)
+            × Lacks (lesson_tree (learn_in self.now.options.now) HISTORY_ENTRIES) self.now.policy.now failure) }
+    {
+        let mut text = self.policy;
+        match setup_of(self.alloc, &self.options.tree(), &mut text) {
+            Ok(setup) => Ok(setup),
+            Err(failure) => Err(failure),
+        }
+    }
+
     /// Returns the setup that the policy gives, with nobody under a layer. Errors: the policy's text gives no setup, or
     /// memory ran out.
     pub fn blank(&self) -> Result<Setup, Failure>
         ensures setup { IfOk result (IsBlank (learn_in self.now.options.now) self.now.policy.now) }
         ensures failure { IfErr result (FailsToMake (learn_in self.now.options.now) self.now.policy.now) }
     {
-        let mut text = self.policy;
-        match setup_of(self.alloc, &self.options.tree(), &mut text) {
+        match self.given() {
             Ok(setup) => Ok(setup),
-            Err(failure) => Err(failure),
+            Err(failure) => Err(in_memory(failure)),
         }
     }
 

@@ -1,15 +1,15 @@
 //! Tries a profile: makes all tests of files under it.
 
-ghost use Rattle.std.specs.Prelude.{◌≡◌, true, map, IfErr, IfOk};
-ghost use Rattle.std.specs.List.{AllByRecursion};
+ghost use Rattle.std.specs.Prelude.{◌≡◌, ◌&&◌, map, IfErr, IfOk};
 ghost use Rattle.ll_program.specs.Options.{learn_in};
 ghost use Rattle.ll_check.specs.Files.{tests_of};
-ghost use Rattle.ll_check.specs.Lessons.{FailsToMake, PassesUnder};
+ghost use Rattle.ll_check.specs.Lessons.{AreTried, FailsToMake, HasTrial};
 
 use crate::checking::check_file;
 use crate::checks::ReadFile;
 use crate::denied::{Notes, tell_denied};
-use crate::judging::{Detail, Reporter};
+use crate::judging::{Reporter, Style};
+use crate::running::{failure_of, ran_out};
 use crate::trees::Trees;
 use ll_learn::LearnedProfile;
 use ll_program::{Failure, header_of};
@@ -25,8 +25,8 @@ fn passes_under<R: Wait, E: Write, N: Notes>(
     err: &mut E,
     notes: &mut N,
 ) -> Result<bool, Failure>
-    ensures passes { IfOk result (λ passes. passes ≡ true → PassesUnder (learn_in trees.now.options.now)
-        trees.now.policy.now profile.now (tests_of file.now)) }
+    ensures tried { IfOk result
+        (HasTrial (learn_in trees.now.options.now) trees.now.policy.now profile.now (tests_of file.now)) }
     ensures failure { IfErr result (FailsToMake (learn_in trees.now.options.now) trees.now.policy.now) }
 {
     let tests = file.checks.tests.as_slice();
@@ -40,19 +40,29 @@ fn passes_under<R: Wait, E: Write, N: Notes>(
     let header = header_of(&setup);
     let reporter = Reporter {
         alloc: trees.alloc,
-        detail: Detail::Usual,
+        style: Style::Usual,
         file: file.name.as_bytes(),
     };
     let mut report = Vec::new(trees.alloc);
     let checked = match check_file(rt, &mut report, &reporter, setup, tests) {
         Ok(checked) => checked,
-        Err(fault) => return Err(Failure::of_run(fault)),
+        Err(fault) => return Err(failure_of(fault)),
     };
+    if ran_out(&checked.made) {
+        return Err(Failure::NoMemory);
+    }
     let _ = err.write_all(report.as_slice());
     if notes.are_wanted() {
         tell_denied(notes, &reporter, &header, tests, &checked);
     }
     Ok(checked.tally.failed == 0)
+}
+
+// Reports whether both passed.
+fn both(pass: bool, passes: bool) -> bool
+    ensures { result ≡ (pass && passes) }
+{
+    pass && passes
 }
 
 /// Reports whether all tests of all files pass like this. Prints those that don't.
@@ -64,14 +74,14 @@ pub(crate) fn pass_under<R: Wait, E: Write, N: Notes>(
     err: &mut E,
     notes: &mut N,
 ) -> Result<bool, Failure>
-    ensures passes { IfOk result (λ pass. pass ≡ true → AllByRecursion (PassesUnder (learn_in trees.now.options.now)
-        trees.now.policy.now profile.now) (map tests_of files.now)) }
+    ensures tried { IfOk result
+        (AreTried (learn_in trees.now.options.now) trees.now.policy.now profile.now (map tests_of files.now)) }
     ensures failure { IfErr result (FailsToMake (learn_in trees.now.options.now) trees.now.policy.now) }
 {
     let mut pass = true;
     for file in files {
         match passes_under(rt, trees, profile, file, err, notes) {
-            Ok(passes) => pass = pass && passes,
+            Ok(passes) => pass = both(pass, passes),
             Err(failure) => return Err(failure),
         }
     }

@@ -2,7 +2,7 @@ use Rattle.std.proofs.Common.{List, ℕ, map, subst, sym}
 use Rattle.ll_program.specs.Options.{learn_in}
 use Rattle.ll_check.specs.Files.{tests_of}
 use Rattle.ll_check.specs.Lessons.{IsProfile}
-use Rattle.ll_check.proofs.Taught.{cut_short, not_taught, written}
+use Rattle.ll_check.proofs.Taught.{cut_short, hindered, not_taught, untested, written}
 use Rattle.ll_check.proofs.learning.learn_files.Goals as goal
 
 pub returns-in-Err-text_of : goal.returns-in-Err-text_of
@@ -35,3 +35,16 @@ returns g c =
     c.as_str.result.now (g.W.Write.contents c.write_whole.new.writer)
     (subst (λ (x : List ℕ). IsProfile order policy files x) (sym c.as_str.ensures.value) is)
     c.in-Err-write_whole.ensures.err
+
+pub returns-then-not-have_tests : goal.returns-then-not-have_tests
+returns-then-not-have_tests g c =
+    untested (learn_in c.args.input.now.options.now) c.args.input.now.policy.now (g.W.Write.contents c.args.out.now)
+    c.args.input.now.files.now c.in-Ok-read_all.files.items c.as_slice.result.now c.in-Ok-read_all.ensures.read
+    c.as_slice.ensures.value c.have_tests.result c.have_tests.ensures c.if-not-have_tests.true
+
+pub returns-in-Ok-None : goal.returns-in-Ok-None
+returns-in-Ok-None g c =
+    let is = rw c.in-Ok-None.field-0-is at c.in-Ok-None.ensures.hindered in
+    hindered (learn_in c.args.input.now.options.now) c.args.input.now.policy.now (g.W.Write.contents c.args.out.now)
+    c.args.input.now.files.now c.in-Ok-read_all.files.items c.as_slice-2.result.now c.in-Ok-read_all.ensures.read
+    c.as_slice-2.ensures.value is

@@ -1,8 +1,9 @@
-use Rattle.std.proofs.Common.{◌≡◌, ◌∙◌, ◌<◌, ◌≤◌, ℕ, List, ap, inl, inr, length, map, refl, subst}
+use Rattle.std.proofs.Common.{◌≡◌, ◌∙◌, ◌<◌, ◌≤◌, ℕ, Bool, List, ap, inl, inr, length, map, refl, subst}
 use Rattle.ll_learn.specs.Profile.{profile_text}
 use Rattle.ll_program.specs.Options.{learn_in}
 use Rattle.ll_check.specs.Files.{Tests, tests_of}
-use Rattle.ll_check.specs.Lessons.{FailsToLearn, IsTaughtBy, lesson_note, lessons_of, picked}
+use Rattle.ll_check.specs.Lessons.{AreTried, FailsToLearn, IsTaughtBy, TeachNothing, lesson_note, lessons_of, picked}
+use Rattle.ll_check.proofs.Trials.{tried_so}
 use Rattle.ll_check.proofs.learning.text_of.Goals as goal
 
 pub returns-in-Err-taught_by-clause-failure : goal.returns-in-Err-taught_by-clause-failure
@@ -38,10 +39,34 @@ returns-in-Ok-text-clause-profile g c =
           (ap (map picked) c.as_slice.ensures.value ∙ c.in-Ok.ensures.lessons) taught;
       few = subst (λ (n : ℕ). length profile.rules.items ≤ n) c.requires.most
           (c.are_few.ensures.few c.if-not-are_few.false);
-      passes = c.in-Ok-true.ensures.passes c.in-Ok-true.field-0-test;
+      passes = tried_so (learn_in c.args.trees.now.options.now) c.args.trees.now.policy.now profile
+          (map tests_of c.args.files.now) _ c.in-Ok-true.ensures.tried c.in-Ok-true.field-0-test;
       name = c.args.request.now.name.now;
       named = c.requires.name;
       text = c.in-Ok-text.ensures
           ∙ ap (λ (x : List Tests). profile_text (lesson_note x) c.args.request.now.name.now profile)
           (ap (map picked) c.as_slice-2.ensures.value ∙ c.in-Ok.ensures.lessons);
     }
+
+pub returns-in-Ok-None-clause-hindered : goal.returns-in-Ok-None-clause-hindered
+returns-in-Ok-None-clause-hindered g c =
+    let nothing = rw c.in-Ok-None.field-0-is at c.in-Ok-None.ensures.nothing in
+    inr (inl (subst (λ (x : List Tests). TeachNothing (learn_in c.args.trees.now.options.now)
+    c.args.trees.now.policy.now x) (ap (map picked) c.as_slice.ensures.value ∙ c.in-Ok.ensures.lessons) nothing))
+
+pub returns-in-Ok-false-clause-hindered : goal.returns-in-Ok-false-clause-hindered
+returns-in-Ok-false-clause-hindered g c =
+    let profile = c.in-Ok-Some.profile in
+    let taught = rw c.in-Ok-Some.field-0-is at c.in-Ok-Some.ensures.taught in
+    inr (inr (
+      profile,
+      subst (λ (x : List Tests). IsTaughtBy (learn_in c.args.trees.now.options.now) c.args.trees.now.policy.now x
+          profile) (ap (map picked) c.as_slice.ensures.value ∙ c.in-Ok.ensures.lessons) taught,
+      subst (λ (n : ℕ). length profile.rules.items ≤ n) c.requires.most
+          (c.are_few.ensures.few c.if-not-are_few.false),
+      subst (λ (b : Bool). AreTried (learn_in c.args.trees.now.options.now) c.args.trees.now.policy.now profile
+          (map tests_of c.args.files.now) b) c.in-Ok-false.field-0-test c.in-Ok-false.ensures.tried,
+    ))
+
+pub returns-in-Err-pass_under-clause-failure : goal.returns-in-Err-pass_under-clause-failure
+returns-in-Err-pass_under-clause-failure g c = inr c.in-Err-pass_under.ensures.failure

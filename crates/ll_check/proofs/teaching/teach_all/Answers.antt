@@ -8,6 +8,7 @@ use Rattle.ll_program.specs.Options.{learn_in}
 use Rattle.ll_check.specs.declared.lessons.FileLessons.{FileLessons}
 use Rattle.ll_check.specs.Files.{Tests}
 use Rattle.ll_check.specs.Lessons.{AreTaught, picked}
+use Rattle.ll_check.proofs.Courses.{one_not_met}
 use Rattle.ll_check.proofs.Told.{each_more}
 use Rattle.ll_check.proofs.teaching.teach_all.Goals as goal
 
@@ -33,3 +34,9 @@ loop-file-preserved g c =
     (subst (λ (x : List (List Entry)). AllZip (AreTaught order policy) (front ++ picked file ∷ []) x) (sym behind)
     (each_more (AreTaught order policy) front (map entries histories) (picked file) history.entries
     c.loop-file.invariant taught))
+
+pub returns-in-Ok-None-clause-unmet : goal.returns-in-Ok-None-clause-unmet
+returns-in-Ok-None-clause-unmet g c =
+    let unmet = rw c.in-Ok-None.field-0-is at c.in-Ok-None.ensures.unmet in
+    one_not_met (learn_in c.args.trees.now.options.now) c.args.trees.now.policy.now c.args.files.now
+    c.loop-file.file-index c.file-item.result c.loop-file-test.true c.file-item.is unmet
