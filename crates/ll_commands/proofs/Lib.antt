@@ -11,3 +11,4 @@ pub mod Rows
 pub mod Stopping
 pub mod Texts
 pub mod Written
+pub mod Performed

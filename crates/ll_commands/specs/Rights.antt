@@ -99,16 +99,15 @@ abbrev pub MayFail : RightsOrder → List ℕ → (out out' : Option (List ℕ))
 MayFail order text out out' failure = FailsToTell (IsTable order text) (LacksTable order text) out out' failure
 
 -- the table of the policy that the words name is written; or it isn't written whole
-abbrev pub EndsRights : (texts : Option (List ℕ) → Option (List ℕ)) → RightsOrder → Result Conclusion Failure → Type 0
-EndsRights texts order (Ok Done) =
-    (text : List ℕ) × IfSome (texts (Some order.policy)) (λ told. text ≡ told)
-    × (out out' : Option (List ℕ)) × Writes out out' (IsTable order text)
-EndsRights texts order (Ok (Stopped stopped)) = ⊥
-EndsRights texts order (Ok (Judged verdict)) = ⊥
-EndsRights texts order (Ok (Checked end)) = ⊥
-EndsRights texts order (Err failure) =
-    (text : List ℕ) × IfSome (texts (Some order.policy)) (λ told. text ≡ told)
-    × (out out' : Option (List ℕ)) × MayFail order text out out' failure
+abbrev pub EndsRights : (texts : Option (List ℕ) → Option (List ℕ)) → RightsOrder → (out out' : Option (List ℕ))
+    → Result Conclusion Failure → Type 0
+EndsRights texts order out out' (Ok Done) =
+    (text : List ℕ) × IfSome (texts (Some order.policy)) (λ told. text ≡ told) × Writes out out' (IsTable order text)
+EndsRights texts order out out' (Ok (Stopped stopped)) = ⊥
+EndsRights texts order out out' (Ok (Judged verdict)) = ⊥
+EndsRights texts order out out' (Ok (Checked end)) = ⊥
+EndsRights texts order out out' (Err failure) =
+    (text : List ℕ) × IfSome (texts (Some order.policy)) (λ told. text ≡ told) × MayFail order text out out' failure
 
 -- the text has a line for each path appended
 abbrev pub AddsRows : State → List Layer → Bool → List Path → (old new : List ℕ) → Type 0

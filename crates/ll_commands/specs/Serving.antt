@@ -1,13 +1,17 @@
 -- Serving on a tree: what is written, what is saved, and how it may fail. own
 use Rattle.std.specs.Prelude.{◌≡◌, ◌⊎◌, ℕ, List, [], ◌∷◌, ◌++◌, Option, true, false, codes, decimal, is_some}
+use Rattle.std.specs.Prelude.{IfSome, Result, Ok, Err}
 use Rattle.std.specs.Io.KnownBytes.{Appends}
 use Rattle.std.specs.declared.alloc.Global.{Global}
 use Rattle.std.specs.declared.vec.Vec.{Vec}
 use Rattle.ll_client.specs.Closed.{IsClosed}
 use Rattle.ll_client.specs.Entries.{Knows}
 use Rattle.ll_program.specs.Options.{ServeOrder, served_tree}
-use Rattle.ll_program.specs.Failure.{IsOfSaving}
+use Rattle.ll_program.specs.Failure.{IsOfBeginning, IsOfSaving}
 use Rattle.ll_program.specs.Policy.{IsSaved, IsSetup, Lacks}
+use Rattle.ll_program.specs.Sources.{text_in}
+use Rattle.ll_program.specs.declared.conclusion.Conclusion.{Conclusion}
+use Rattle.ll_program.specs.declared.conclusion.Conclusion.TheVariants.{Checked, Done, Judged, Stopped}
 use Rattle.ll_program.specs.declared.failure.Failure.{Failure}
 use Rattle.ll_program.specs.declared.failure.Failure.TheVariants.{CommandLine, Policy, Opening, File, Output, Socket}
 use Rattle.ll_program.specs.declared.failure.Failure.TheVariants.{NoMemory}
@@ -68,6 +72,21 @@ MayFail order text out out' file file' failure =
     × (file' ≡ file))
     ⊎ ((is_some order.save ≡ true) × IsOfSaving failure × (setup : Setup) × IsSetup (served_tree order) text setup
     × Appends out out' (listening order.port) × (file' ≡ file))
+
+-- How serving ends, if the files have these texts. Streams were served as above. Or it fails as above, or before it
+-- begins, and then nothing is written
+abbrev pub EndsServe : (texts : Option (List ℕ) → Option (List ℕ)) → ServeOrder → (out out' : Option (List ℕ))
+    → Result Conclusion Failure → Type 0
+EndsServe texts order out out' (Ok Done) =
+    (text : List ℕ) × (blank file file' : Option (List ℕ)) × IfSome (text_in texts order.policy) (λ told. text ≡ told)
+    × IsDone order text out out' blank file file'
+EndsServe texts order out out' (Ok (Stopped it)) = ⊥
+EndsServe texts order out out' (Ok (Judged verdict)) = ⊥
+EndsServe texts order out out' (Ok (Checked end)) = ⊥
+EndsServe texts order out out' (Err failure) =
+    (IsOfBeginning order.save failure × (out' ≡ out))
+    ⊎ ((text : List ℕ) × (file file' : Option (List ℕ)) × IfSome (text_in texts order.policy) (λ told. text ≡ told)
+    × MayFail order text out out' file file' failure)
 
 -- ---- Support of the functions below `serve`
 

@@ -139,10 +139,11 @@ file_asked (Some (of_entry history number)) = named history
 file_asked (Some (of_command policy profile word)) = Some policy
 
 -- the answer on the file that the words name is written, or the history's first bad line; or it isn't written whole
-abbrev pub EndsWhy : (texts : Option (List ℕ) → Option (List ℕ)) → WhyOrder → Result Conclusion Failure → Type 0
-EndsWhy texts order (Ok conclusion) =
+abbrev pub EndsWhy : (texts : Option (List ℕ) → Option (List ℕ)) → WhyOrder → (out out' : Option (List ℕ))
+    → Result Conclusion Failure → Type 0
+EndsWhy texts order out out' (Ok conclusion) =
     (file : List ℕ) × IfSome (texts (file_asked (asked_by order))) (λ told. file ≡ told)
-    × (out out' : Option (List ℕ)) × Writes out out' (IsToldSo order file conclusion)
-EndsWhy texts order (Err failure) =
+    × Writes out out' (IsToldSo order file conclusion)
+EndsWhy texts order out out' (Err failure) =
     (file : List ℕ) × IfSome (texts (file_asked (asked_by order))) (λ told. file ≡ told)
-    × (out out' : Option (List ℕ)) × MayFail order file out out' failure
+    × MayFail order file out out' failure

@@ -163,6 +163,12 @@ pub fn export_checked<R: Read, W: Write>(
         × Writes (W.contents out.old) (W.contents out.new) (IsExport (exported_in options.now) text)) }
     ensures failure { IfErr result (λ failure. (text : List ℕ) × IfSome (R.remaining file.old) (λ told. text ≡ told)
         × MayFail (exported_in options.now) text failure) }
+    ensures quiet { IfErr result (λ failure. failure ≢ Failure.Output
+        → Keeps (W.contents out.old) (W.contents out.new)) }
+    ensures broken { result ≡ Err Failure.Output → (text : List ℕ)
+        × IfSome (R.remaining file.old) (λ told. text ≡ told) × (written : List ℕ)
+        × IsExport (exported_in options.now) text written
+        × AppendsFront (W.contents out.old) (W.contents out.new) written }
 {
     if checked != Checked::Passed {
         return Ok(Conclusion::Checked(checked));

@@ -38,8 +38,8 @@ pub use opening::{Opened, open_tree};
 pub use port::{Binds, Listens, Loopback, Missed, Port};
 pub use rights::{rights_table, tell_rights};
 pub use schedules::{
-    draw_in, draw_over, draw_schedule, explain_schedule, perform_over, perform_schedule, setup_by,
-    window_by,
+    draw_in, draw_over, draw_schedule, explain_schedule, perform_over, perform_schedule, schedule,
+    setup_by, window_by,
 };
 pub use served::serve;
 pub use table::row_text;

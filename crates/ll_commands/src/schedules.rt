@@ -10,7 +10,7 @@ ghost use Rattle.ll_wire.specs.Transcript.{Writes};
 ghost use Rattle.ll_wire.specs.declared.fault.SessionFault.{SessionFault};
 ghost use Rattle.ll_program.specs.Options.{scheduled_in};
 ghost use Rattle.ll_picture.specs.Pictures.{IsPicture};
-ghost use Rattle.ll_commands.specs.Schedules.{IsWorldSetup, window_of};
+ghost use Rattle.ll_commands.specs.Schedules.{FailsSchedule, IsWorldSetup, RunsSchedule, window_of};
 ghost use Rattle.ll_program.specs.declared.failure.Failure.{Failure};
 ghost use Rattle.ll_program.specs.Failure.{failure_in_session, IsOfDevices, IsOfSaving};
 ghost use Rattle.ll_steps.specs.Told.{IsBegun, IsTold};
@@ -95,6 +95,21 @@ pub fn perform_schedule<R: Read, W: Write>(
         is_output_broken: false,
     };
     perform_over(alloc, setup, &mut ends)
+}
+
+/// Runs the schedule in this file in the world that the options describe, and writes its lines.
+pub fn schedule<R: Read, W: Write>(
+    alloc: Global,
+    options: &ScheduleOptions,
+    file: &mut R,
+    out: &mut W,
+) -> Result<(), Failure>
+    ensures told { OnOk result (RunsSchedule (scheduled_in options.now) (R.remaining file.old)
+        (W.contents out.old) (W.contents out.new)) }
+    ensures failure { IfErr result (FailsSchedule (scheduled_in options.now) (R.remaining file.old)
+        (W.contents out.old) (W.contents out.new)) }
+{
+    perform_schedule(alloc, setup_by(options), file, out)
 }
 
 /// Draws these lines of a schedule as `draw_schedule` does, to a device that counts its failures. Doesn't retry after a
