@@ -2,7 +2,7 @@
 _landtree() {
     local word=${COMP_WORDS[COMP_CWORD]} before=${COMP_WORDS[COMP_CWORD - 1]} options
     if [ "$COMP_CWORD" -eq 1 ]; then
-        options="run audit schedule rights why learn check serve export help --explain --help --version"
+        options="run audit schedule rights why learn check serve export help --explain --terse --help --version"
         mapfile -t COMPREPLY < <(compgen -W "$options" -- "$word")
         return
     fi
@@ -16,7 +16,9 @@ _landtree() {
         return
         ;;
     --as)
-        mapfile -t COMPREPLY < <(compgen -W "c json" -- "$word")
+        local forms="c json"
+        [ "${COMP_WORDS[1]}" != check ] || forms="tap junit json"
+        mapfile -t COMPREPLY < <(compgen -W "$forms" -- "$word")
         return
         ;;
     --deny)
@@ -30,18 +32,18 @@ _landtree() {
     --nodes | --history | --from | --to | --profile | --port | --workers | --connections | --idle | --room | --client | --name | --never | --most) return ;;
     esac
     case ${COMP_WORDS[1]} in
-    run) options="--nodes --abi --history --policy --profile --save --strict --explain --help" ;;
-    audit) options="--explain --help" ;;
-    schedule) options="--nodes --abi --history --picture --from --to --explain --help" ;;
-    rights) options="--policy --profile --nodes --layers --explain --help" ;;
-    why) options="--policy --profile --nodes --explain --help" ;;
-    learn) options="--policy --history --client --name --never --beneath --most --nodes --explain --help" ;;
-    check) options="--nodes --abi --policy --profile --quiet --verbose --explain --help" ;;
+    run) options="--nodes --abi --history --policy --profile --save --strict --explain --terse --help" ;;
+    audit) options="--explain --terse --help" ;;
+    schedule) options="--nodes --abi --history --picture --from --to --explain --terse --help" ;;
+    rights) options="--policy --profile --nodes --layers --explain --terse --help" ;;
+    why) options="--policy --profile --nodes --explain --terse --help" ;;
+    learn) options="--policy --history --client --name --never --beneath --most --nodes --explain --terse --help" ;;
+    check) options="--nodes --abi --policy --profile --quiet --verbose --as --explain --terse --help" ;;
     serve)
-        options="--port --workers --connections --idle --room --log --nodes --abi --history --policy --profile --save --explain --help"
+        options="--port --workers --connections --idle --room --log --nodes --abi --history --policy --profile --save --explain --terse --help"
         ;;
     export)
-        options="--policy --profile --as --root --also --follow --deny --exact --best-effort --checked --explain --help"
+        options="--policy --profile --as --root --also --follow --deny --exact --best-effort --checked --explain --terse --help"
         ;;
     help) options="run audit schedule rights why learn check serve export" ;;
     *) return ;;

@@ -5,8 +5,6 @@ use Rattle.std.specs.Prelude.{IfErr, IfOk, IfSome, OnOk}
 use Rattle.std.specs.List.{AllZip}
 use Rattle.std.specs.Borrow.{Bor}
 use Rattle.std.proofs.lemmas.List.{map-append, take_more}
-use Rattle.clap.specs.Words.{HasKind, Kinds, kind_of}
-use Rattle.clap.specs.declared.error.Error.{Error}
 use Rattle.ll_wire.specs.Transcript.{Writes}
 use Rattle.ll_program.specs.Options.{CheckOrder, ExportOrder}
 use Rattle.ll_program.specs.declared.checked.Checked.{Checked}
@@ -14,15 +12,13 @@ use Rattle.ll_program.specs.declared.checked.Checked.TheVariants as checked
 use Rattle.ll_program.specs.declared.conclusion.Conclusion.{Conclusion}
 use Rattle.ll_program.specs.declared.failure.Failure.{Failure}
 use Rattle.ll_program.specs.declared.failure.Failure.TheVariants as failure
-use Rattle.ll_program.specs.Failure.{failure_by}
 use Rattle.ll_program.specs.Sources.{text_in}
 use Rattle.ll_check.specs.declared.checks.NamedText.{NamedText}
-use Rattle.ll_check.specs.Ends.{EndsCheck, FailsCheck, IsCheckedUnder, IsPolicyText, IsSource}
-use Rattle.ll_check.specs.Files.{IsCheck, MayFail, source_of}
+use Rattle.ll_check.specs.Ends.{BeginsCheck, FailsCheck, IsCheckOf, IsCheckedUnder, IsPolicyText, IsSource}
+use Rattle.ll_check.specs.Files.{HasBegun, IsCheck, MayFail, source_of}
 use Rattle.ll_check.proofs.Told.{each_more}
 use Rattle.ll_commands.specs.Export.{IsExport, ended_by}
-use Rattle.landtree.specs.Checked.{EndsChecked, IsExported, check_of}
-use Rattle.landtree.proofs.Starved.{ran_out}
+use Rattle.landtree.specs.Checked.{EndsChecked, check_of}
 
 module _ (texts : Option (List ℕ) → Option (List ℕ)) where
   -- one file more
@@ -44,26 +40,39 @@ module _ (texts : Option (List ℕ) → Option (List ℕ)) where
       (each_more (IsSource texts) fronts (map source_of files) name.now (source_of file) so more))
 
   -- what is checked of these files is a check of the names
+  checked_of : (order : CheckOrder) (names : List (List ℕ)) (policy told : List ℕ)
+      (files all : List NamedText) (end : Checked) (written : List ℕ) → names ≡ order.files
+      → AllZip (IsSource texts) names (map source_of files) → all ≡ files → told ≡ policy
+      → IsCheck order told (map source_of all) end written → IsCheckOf texts order policy end written
+  checked_of order names policy told files all end written named are same so done = (
+    map source_of files,
+    subst (λ xs. AllZip (IsSource texts) xs (map source_of files)) named are,
+    subst (λ (x : List NamedText). IsCheck order policy (map source_of x) end written) same
+        (subst (λ (p : List ℕ). IsCheck order p (map source_of all) end written) so done),
+  )
+
   pub checked_under : (order : CheckOrder) (names : List (List ℕ)) (policy told : List ℕ)
       (files all : List NamedText) (old new : Option (List ℕ)) (r : Result Checked Failure) → names ≡ order.files
       → AllZip (IsSource texts) names (map source_of files) → all ≡ files → told ≡ policy
       → IfOk r (λ end. Writes old new (IsCheck order told (map source_of all) end))
       → IfOk r (IsCheckedUnder texts order policy)
   checked_under order names policy told files all old new (Err failure) named are same so done = tt
-  checked_under order names policy told files all old new (Ok end) named are same so done = (
-    map source_of files,
-    done.0,
-    subst (λ xs. AllZip (IsSource texts) xs (map source_of files)) named are,
-    subst (λ (x : List NamedText). IsCheck order policy (map source_of x) end done.0) same
-        (subst (λ (p : List ℕ). IsCheck order p (map source_of all) end done.0) so done.1),
-  )
+  checked_under order names policy told files all old new (Ok end) named are same so done =
+      (done.0, checked_of order names policy told files all end done.0 named are same so done.1)
 
-  pub with_policy : (order : CheckOrder) (policy : List ℕ) (r : Result Checked Failure)
-      → IsPolicyText texts order.policy policy → IfOk r (IsCheckedUnder texts order policy)
+  pub checked_written : (order : CheckOrder) (names : List (List ℕ)) (policy told : List ℕ)
+      (files all : List NamedText) (old new : Option (List ℕ)) (r : Result Checked Failure) → names ≡ order.files
+      → AllZip (IsSource texts) names (map source_of files) → all ≡ files → told ≡ policy
+      → IsPolicyText texts order.policy policy
+      → IfOk r (λ end. Writes old new (IsCheck order told (map source_of all) end))
       → IfOk r (λ end. (policy : List ℕ) × IsPolicyText texts order.policy policy
-      × IsCheckedUnder texts order policy end)
-  with_policy order policy (Err failure) known done = tt
-  with_policy order policy (Ok end) known done = (policy, known, done)
+      × Writes old new (IsCheckOf texts order policy end))
+  checked_written order names policy told files all old new (Err failure) named are same so known done = tt
+  checked_written order names policy told files all old new (Ok end) named are same so known done = (
+    policy,
+    known,
+    (done.0, checked_of order names policy told files all end done.0 named are same so done.1, done.2),
+  )
 
   pub fails_by : (order : CheckOrder) (policy : List ℕ) (why : Failure) → IsPolicyText texts order.policy policy
       → MayFail order policy why → FailsCheck texts order why
@@ -88,41 +97,38 @@ module _ (texts : Option (List ℕ) → Option (List ℕ)) where
       let known = a_text (text_in texts order.policy) in
       subst (FailsCheck texts order) (sym e) (known.0, known.1, inr (inr (inr refl)))
 
-  pub starved : (order : CheckOrder) (kinds : Kinds) (e : Error) (r : Result Conclusion Failure) → HasKind kinds e
-      → kinds ≡ [] → IfSome (failure_by (kind_of e)) (λ why. r ≡ Err why) → EndsCheck texts order r
-  starved order kinds e r kind none told =
-      ran_out (EndsCheck texts order) kinds e r kind none told (unread order failure.NoMemory (inr refl))
+  -- nothing is written, or what was begun of the report
+  pub none_written : (order : CheckOrder) (out : Option (List ℕ)) (why : Failure)
+      → BeginsCheck texts order out out why
+  none_written order out why = let known = a_text (text_in texts order.policy) in (known.0, known.1, inl refl)
+
+  pub begun_written : (order : CheckOrder) (names : List (List ℕ)) (policy told : List ℕ)
+      (files all : List NamedText) (old new : Option (List ℕ)) (r : Result Checked Failure) → names ≡ order.files
+      → AllZip (IsSource texts) names (map source_of files) → all ≡ files → told ≡ policy
+      → IsPolicyText texts order.policy policy
+      → IfErr r (HasBegun (IsCheck order told (map source_of all)) old new)
+      → IfErr r (BeginsCheck texts order old new)
+  begun_written order names policy told files all old new (Ok end) named are same so known begun = tt
+  begun_written order names policy told files all old new (Err failure) named are same so known (inl none) =
+      (policy, known, inl none)
+  begun_written order names policy told files all old new (Err failure) named are same so known (inr some) =
+      let is = checked_of order names policy told files all some.1 some.2 named are same so some.3 in
+      (policy, known, inr (some.0, some.1, some.2, is, some.4))
 
   -- what is exported was checked
-  pub exported : (order : ExportOrder) (policy told : List ℕ) (end : Checked) (Q : List ℕ → Type 0)
+  pub exported : (order : ExportOrder) (policy told : List ℕ) (end : Checked) (out out' : Option (List ℕ))
       (r : Result Conclusion Failure) → told ≡ policy → IsPolicyText texts (Some order.policy) policy
       → IsCheckedUnder texts (check_of order) policy end → IfOk r (λ it. it ≡ ended_by end)
-      → OnOk r (end ≡ checked.Passed → (text : List ℕ) × (text ≡ told)
-      × ((written : List ℕ) × IsExport order text written × Q written))
-      → EndsChecked texts order r
-  exported order policy told end Q (Err why) so known is e done = tt
-  exported order policy told checked.Passed Q (Ok it) so known is e done =
+      → OnOk r (end ≡ checked.Passed → (text : List ℕ) × (text ≡ told) × Writes out out' (IsExport order text))
+      → EndsChecked texts order out out' r
+  exported order policy told end out out' (Err why) so known is e done = tt
+  exported order policy told checked.Passed out out' (Ok it) so known is e done =
       let text = done refl in
-      subst (λ (x : Conclusion). EndsChecked texts order (Ok x)) (sym e)
-      (policy, text.2.0, known, is, subst (λ t. IsExport order t text.2.0) (text.1 ∙ so) text.2.1)
-  exported order policy told checked.Failed Q (Ok it) so known is e done =
-      subst (λ (x : Conclusion). EndsChecked texts order (Ok x)) (sym e) (policy, known, is, (λ same. absurd cc))
-  exported order policy told checked.BadLine Q (Ok it) so known is e done =
-      subst (λ (x : Conclusion). EndsChecked texts order (Ok x)) (sym e) (policy, known, is, (λ same. absurd cc))
-
-  -- an export that is done has a text
-  pub export_done : {A : Type 0} (order : ExportOrder) (left : Option (List ℕ)) (Q : List ℕ → Type 0)
-      (r : Result A Failure) → left ≡ texts (Some order.policy)
-      → OnOk r ((text : List ℕ) × IfSome left (λ told. text ≡ told)
-      × ((written : List ℕ) × IsExport order text written × Q written))
-      → OnOk r ((policy written : List ℕ) × IfSome (texts (Some order.policy)) (λ told. policy ≡ told)
-      × IsExport order policy written)
-  export_done order left Q (Ok it) read done =
-      (done.0, done.2.0, subst (λ o. IfSome o (λ told. done.0 ≡ told)) read done.1, done.2.1)
-  export_done order left Q (Err failure) read done = tt
-
-  -- one whose profile was checked has one too
-  pub checked_exported : (order : ExportOrder) (r : Result Conclusion Failure) → EndsChecked texts order r
-      → IsExported texts order r
-  checked_exported order r ends same =
-      let it = subst (EndsChecked texts order) same ends in (it.0, it.1, it.2, it.4)
+      subst (λ (x : Conclusion). EndsChecked texts order out out' (Ok x)) (sym e)
+      (policy, known, is, subst (λ t. Writes out out' (IsExport order t)) (text.1 ∙ so) text.2)
+  exported order policy told checked.Failed out out' (Ok it) so known is e done =
+      subst (λ (x : Conclusion). EndsChecked texts order out out' (Ok x)) (sym e)
+      (policy, known, is, (λ same. absurd cc))
+  exported order policy told checked.BadLine out out' (Ok it) so known is e done =
+      subst (λ (x : Conclusion). EndsChecked texts order out out' (Ok x)) (sym e)
+      (policy, known, is, (λ same. absurd cc))

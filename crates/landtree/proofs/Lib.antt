@@ -1,7 +1,9 @@
 pub mod Asked
 pub mod CheckedFiles
+pub mod Exported
 pub mod HintLines
 pub mod Starved
 pub mod TextsTold
 pub mod Runs
 pub mod Taught
+pub mod Wishes

@@ -1,17 +1,16 @@
 -- How runs end.
-use Rattle.std.proofs.Common.{◌≡◌, ◌∙◌, ℕ, List, [], Option, None, Some, Bor, Result, Ok, Err, subst, ap, inl, inr}
-use Rattle.std.specs.Prelude.{IfErr, IfOk, IfSome, option_map, unwrap_or}
-use Rattle.ll_program.specs.Options.{RunOrder}
-use Rattle.ll_program.specs.Policy.{EndsRun, IsRun, MayFail, profile_of}
-use Rattle.ll_program.specs.Failure.{failure_of}
+use Rattle.std.proofs.Common.{◌≡◌, ◌∙◌, ℕ, true, List, Option, None, Some, Bor, Result, Ok, Err, refl, subst, ap, inr}
+use Rattle.std.specs.Prelude.{IfErr, IfOk, IfSome, OnOk, is_some, option_map, unwrap_or}
+use Rattle.ll_program.specs.Options.{RunOrder, ServeOrder}
+use Rattle.ll_program.specs.Policy.{EndsRun, IsRun, MayFail}
+use Rattle.ll_program.specs.Failure.{IsOfBeginning}
 use Rattle.ll_program.specs.Sources.{named, text_in}
 use Rattle.ll_program.specs.declared.conclusion.Conclusion.{Conclusion}
 use Rattle.ll_program.specs.declared.failure.Failure.{Failure}
-use Rattle.ll_program.specs.declared.failure.Failure.TheVariants.{CommandLine, Policy, Opening, File, Output, Socket}
-use Rattle.ll_program.specs.declared.failure.Failure.TheVariants.{NoMemory}
-use Rattle.ll_session.specs.declared.fault.RunFault.{RunFault}
-use Rattle.ll_session.specs.declared.fault.RunFault.TheVariants as run
-use Rattle.ll_wire.specs.declared.fault.SessionFault.TheVariants as fault
+use Rattle.ll_program.specs.declared.failure.Failure.TheVariants.{File}
+use Rattle.ll_commands.specs.Serving as serving
+use Rattle.ll_commands.specs.Serving.{EndsServe, IsDone}
+use Rattle.landtree.proofs.TextsTold.{ended}
 
 -- What is read of the policy's file is its text, if one is named
 pub policy_text : (texts : Option (List ℕ) → Option (List ℕ)) (policy : Option (Bor (List ℕ)))
@@ -23,61 +22,55 @@ policy_text texts None word otherwise left text is read told = tt
 policy_text texts (Some w) word otherwise left text is read told =
     subst (λ o. IfSome o (λ known. text ≡ known)) (read ∙ ap (λ (v : Bor (List ℕ)). texts (Some v.now)) is) told
 
-no_words : (of : RunFault) → CommandLine ≡ failure_of of → ⊥
-no_words run.Opening is = cc
-no_words (run.Session fault.Read) is = cc
-no_words (run.Session fault.Write) is = cc
-no_words (run.Session fault.NoMemory) is = cc
-no_words (run.Session fault.TooLong) is = cc
-
-no_socket : (of : RunFault) → Socket ≡ failure_of of → ⊥
-no_socket run.Opening is = cc
-no_socket (run.Session fault.Read) is = cc
-no_socket (run.Session fault.Write) is = cc
-no_socket (run.Session fault.NoMemory) is = cc
-no_socket (run.Session fault.TooLong) is = cc
+-- a file that is to be written is named
+pub clashed : (file : Option (Bor (List ℕ))) → is_some file ≡ true
+    → IsOfBeginning (option_map (λ (t : Bor (List ℕ)). t.now) file) File
+clashed None named = absurd cc
+clashed (Some name) named = refl
 
 -- what a run leaves is something
 pub run_packed : (order : RunOrder) (r : Result Conclusion Failure)
     (left script script' out out' blank file file' : Option (List ℕ))
     → IfOk r (λ end. (text : List ℕ) × IfSome left (λ told. text ≡ told)
     × IsRun order text end script script' out out' blank file file')
-    → IfOk r (λ end. (text : List ℕ) × (s o o' b f f' : Option (List ℕ)) × IfSome left (λ told. text ≡ told)
-    × IsRun order text end script s o o' b f f')
+    → IfOk r (λ end. (text : List ℕ) × (s b f f' : Option (List ℕ)) × IfSome left (λ told. text ≡ told)
+    × IsRun order text end script s out out' b f f')
 run_packed order (Ok end) left script script' out out' blank file file' done =
-    (done.0, script', out, out', blank, file, file', done.1, done.2)
+    (done.0, script', blank, file, file', done.1, done.2)
 run_packed order (Err failure) left script script' out out' blank file file' done = tt
 
-module _ (texts : Option (List ℕ) → Option (List ℕ)) (order : RunOrder) where
-  wrong_words : (text : List ℕ) → MayFail order text CommandLine → order.profile ≡ None → ⊥
-  wrong_words text (inl policy) none =
-      let lacks = policy.1.2 in
-      let some = ap (λ (profile : Option (List ℕ)). profile_of profile policy.1.0) none in cc
-  wrong_words text (inr (inl ran)) none = no_words ran.2 ran.4
-  wrong_words text (inr (inr saved)) none = saved.1
+pub failure_packed : (order : RunOrder) (r : Result Conclusion Failure)
+    (left script script' out out' : Option (List ℕ))
+    → IfErr r (λ failure. (text : List ℕ) × IfSome left (λ told. text ≡ told)
+    × MayFail order text script script' out out' failure)
+    → IfErr r (λ failure. (text : List ℕ) × (s : Option (List ℕ)) × IfSome left (λ told. text ≡ told)
+    × MayFail order text script s out out' failure)
+failure_packed order (Ok end) left script script' out out' fails = tt
+failure_packed order (Err failure) left script script' out out' fails = (fails.0, script', fails.1, fails.2)
 
-  no_listener : (text : List ℕ) → MayFail order text Socket → ⊥
-  no_listener text (inl policy) = policy.1
-  no_listener text (inr (inl ran)) = no_socket ran.2 ran.4
-  no_listener text (inr (inr saved)) = saved.1
-
-  pub ends_run : (r : Result Conclusion Failure) (left script : Option (List ℕ))
+module _ (texts : Option (List ℕ) → Option (List ℕ)) where
+  pub ends_run : (order : RunOrder) (r : Result Conclusion Failure) (left script out out' : Option (List ℕ))
       → script ≡ texts (named order.script)
       → ((text : List ℕ) → IfSome left (λ told. text ≡ told)
       → IfSome (text_in texts order.policy) (λ told. text ≡ told))
-      → IfOk r (λ end. (text : List ℕ) × (s o o' b f f' : Option (List ℕ)) × IfSome left (λ told. text ≡ told)
-      × IsRun order text end script s o o' b f f')
-      → IfErr r (λ failure. (text : List ℕ) × IfSome left (λ told. text ≡ told) × MayFail order text failure)
-      → EndsRun texts order r
-  ends_run (Ok end) left script is known (text, s, o, o', b, f, f', told, ran) fails =
-      let run = subst (λ (x : Option (List ℕ)). IsRun order text end x s o o' b f f') is ran in
-      (text, s, o, o', b, f, f', known text told, run)
-  ends_run (Err CommandLine) left script is known done fails =
-      wrong_words fails.0 fails.2
-  ends_run (Err Socket) left script is known done fails =
-      no_listener fails.0 fails.2
-  ends_run (Err (Policy of)) left script is known done fails = tt
-  ends_run (Err Opening) left script is known done fails = tt
-  ends_run (Err File) left script is known done fails = tt
-  ends_run (Err Output) left script is known done fails = tt
-  ends_run (Err NoMemory) left script is known done fails = tt
+      → IfOk r (λ end. (text : List ℕ) × (s b f f' : Option (List ℕ)) × IfSome left (λ told. text ≡ told)
+      × IsRun order text end script s out out' b f f')
+      → IfErr r (λ failure. (text : List ℕ) × (s : Option (List ℕ)) × IfSome left (λ told. text ≡ told)
+      × MayFail order text script s out out' failure)
+      → EndsRun texts order out out' r
+  ends_run order (Ok end) left script out out' is known (text, s, b, f, f', told, ran) fails =
+      let run = subst (λ (x : Option (List ℕ)). IsRun order text end x s out out' b f f') is ran in
+      (text, s, b, f, f', known text told, run)
+  ends_run order (Err failure) left script out out' is known done (text, s, told, why) =
+      let may = subst (λ (x : Option (List ℕ)). MayFail order text x s out out' failure) is why in
+      inr (text, s, known text told, may)
+
+  -- a serve that served streams, or failed, over some file
+  pub ends_serve : {A : Type 0} (order : ServeOrder) (r : Result A Failure) (out out' : Option (List ℕ))
+      → OnOk r ((text : List ℕ) × (b f f' : Option (List ℕ)) × IfSome (text_in texts order.policy) (λ told. text ≡ told)
+      × IsDone order text out out' b f f')
+      → IfErr r (λ failure. (text : List ℕ) × (f f' : Option (List ℕ))
+      × IfSome (text_in texts order.policy) (λ told. text ≡ told) × serving.MayFail order text out out' f f' failure)
+      → EndsServe texts order out out' (ended r)
+  ends_serve order (Ok it) out out' done fails = done
+  ends_serve order (Err failure) out out' done fails = inr fails

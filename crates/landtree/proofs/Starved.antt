@@ -22,16 +22,16 @@ ran_out P kinds e r (inl out) none told starved =
     subst P (sym is) starved
 ran_out P kinds e r (inr among) none told starved = absurd (subst (IsAmong (kind_of e)) none among)
 
-module _ (texts : Option (List ℕ) → Option (List ℕ)) where
-  pub no_rights : (order : RightsOrder) → EndsRights texts order (Err NoMemory)
-  no_rights order = let t = left (texts (Some order.policy)) in (t.0, t.1, None, None, inl (tt, refl))
+module _ (texts : Option (List ℕ) → Option (List ℕ)) (out : Option (List ℕ)) where
+  pub no_rights : (order : RightsOrder) → EndsRights texts order out out (Err NoMemory)
+  no_rights order = let t = left (texts (Some order.policy)) in (t.0, t.1, inl (tt, refl))
 
   lacks : (nodes : ℕ) (asked : Option Asked) (file : List ℕ) → is_some asked ≡ true → Fails nodes asked file NoMemory
   lacks nodes None file e = absurd (cc e)
   lacks nodes (Some (of_entry history number)) file e = tt
   lacks nodes (Some (of_command policy profile word)) file e = tt
 
-  pub no_answer : (order : WhyOrder) → fits_why order ≡ true → EndsWhy texts order (Err NoMemory)
+  pub no_answer : (order : WhyOrder) → fits_why order ≡ true → EndsWhy texts order out out (Err NoMemory)
   no_answer order fits =
       let t = left (texts (file_asked (asked_by order))) in
-      (t.0, t.1, None, None, inl (lacks order.nodes (asked_by order) t.0 fits, refl))
+      (t.0, t.1, inl (lacks order.nodes (asked_by order) t.0 fits, refl))

@@ -1,5 +1,5 @@
 -- How lessons end, and what a history teaches.
-use Rattle.std.proofs.Common.{◌≡◌, ◌∙◌, ◌&&◌, ℕ, Bool, true, false, List, [], ◌∷◌, map, Option, None, Result, Ok, Err}
+use Rattle.std.proofs.Common.{◌≡◌, ◌∙◌, ◌&&◌, ℕ, Bool, true, false, List, [], ◌∷◌, map, Option, Result, Ok, Err}
 use Rattle.std.proofs.Common.{refl, ap, subst, inl, inr}
 use Rattle.std.specs.Prelude.{IfSome}
 use Rattle.std.specs.Borrow.{Bor}
@@ -25,41 +25,38 @@ lines_told (name ∷ names) = ap (λ rest. list_all is_of_line name.now && rest)
 
 -- nothing is known of the history
 pub lacking : (order : LearnOrder) (text : List ℕ) (failure : Failure) → LacksLesson order text failure
-    → IsLearning order text None None (Err failure)
-lacking order text CommandLine lacks = (inl lacks, refl)
-lacking order text (Policy fault) lacks = absurd lacks
-lacking order text Opening lacks = absurd lacks
-lacking order text File lacks = refl
-lacking order text Output lacks = absurd lacks
-lacking order text Socket lacks = absurd lacks
-lacking order text NoMemory lacks = refl
+    → (out : Option (List ℕ)) → IsLearning order text out out (Err failure)
+lacking order text CommandLine lacks out = (inl lacks, refl)
+lacking order text (Policy fault) lacks out = absurd lacks
+lacking order text Opening lacks out = absurd lacks
+lacking order text File lacks out = refl
+lacking order text Output lacks out = absurd lacks
+lacking order text Socket lacks out = absurd lacks
+lacking order text NoMemory lacks out = refl
 
 module _ (texts : Option (List ℕ) → Option (List ℕ)) (order : LearnOrder) where
   pub by_checks : (names : List (Bor (List ℕ))) (policy told : List ℕ) (files all : List NamedText)
       (end : Result Checked Failure) → map (λ n. n.now) names ≡ order.files
       → told ≡ policy → all ≡ files → IsPolicyText texts order.policy policy
       → AllZip (IsSource texts) (map (λ n. n.now) names) (map source_of files)
-      → (before after : Option (List ℕ)) × EndsLessons order told (map source_of all) before after end
+      → (out out' : Option (List ℕ)) → EndsLessons order told (map source_of all) out out' end
       → list_all (λ name. list_all is_of_line name) order.files ≡ true
-      → EndsByChecks texts order (concluded end)
-  by_checks names policy told files all end named so same known are ends lines = inr (inr (inr (
+      → EndsByChecks texts order out out' (concluded end)
+  by_checks names policy told files all end named so same known are out out' ends lines = inr (
     policy,
     map source_of files,
-    ends.0,
-    ends.1,
     end,
     known,
     subst (λ xs. AllZip (IsSource texts) xs (map source_of files)) named are,
-    subst (λ (x : List NamedText). EndsLessons order policy (map source_of x) ends.0 ends.1 end) same
-        (subst (λ (p : List ℕ). EndsLessons order p (map source_of all) ends.0 ends.1 end) so ends.2),
+    subst (λ (x : List NamedText). EndsLessons order policy (map source_of x) out out' end) same
+        (subst (λ (p : List ℕ). EndsLessons order p (map source_of all) out out' end) so ends),
     refl,
     lines,
-  )))
+  )
 
-  pub by_history : (history : List ℕ) (left : Option (List ℕ)) (r : Result Conclusion Failure)
+  pub by_history : (history : List ℕ) (left out out' : Option (List ℕ)) (r : Result Conclusion Failure)
       → left ≡ texts (named history)
-      → (text : List ℕ) × (before after : Option (List ℕ)) × IfSome left (λ told. text ≡ told)
-      × IsLearning order text before after r
-      → EndsByHistory texts order history r
-  by_history history left r read is =
-      (is.0, is.1, is.2, subst (λ o. IfSome o (λ told. is.0 ≡ told)) read is.3, is.4)
+      → (text : List ℕ) × IfSome left (λ told. text ≡ told) × IsLearning order text out out' r
+      → EndsByHistory texts order history out out' r
+  by_history history left out out' r read is =
+      (is.0, subst (λ o. IfSome o (λ told. is.0 ≡ told)) read is.1, is.2)

@@ -22,9 +22,15 @@ module _ (texts : Option (List ℕ) → Option (List ℕ)) (order : WhyOrder) (l
       × Writes out out' (IsToldSo order text conclusion))
       → IfErr r (λ failure. (text : List ℕ) × IfSome left (λ told. text ≡ told)
       × why.MayFail order text out out' failure)
-      → EndsWhy texts order r
-  why_ends (Ok conclusion) told fails = (told.0, known told.0 told.1, out, out', told.2)
-  why_ends (Err failure) told fails = (fails.0, known fails.0 fails.1, out, out', fails.2)
+      → EndsWhy texts order out out' r
+  why_ends (Ok conclusion) told fails = (told.0, known told.0 told.1, told.2)
+  why_ends (Err failure) told fails = (fails.0, known fails.0 fails.1, fails.2)
+
+-- what is left of a source is told of its file
+pub of_source : (texts : Option (List ℕ) → Option (List ℕ)) {left : Option (List ℕ)} {file : Option (List ℕ)}
+    → left ≡ texts file → (text : List ℕ) → IfSome left (λ told. text ≡ told)
+    → IfSome (texts file) (λ told. text ≡ told)
+of_source texts read text is = subst (λ o. IfSome o (λ told. text ≡ told)) read is
 
 -- how a table is concluded that is told so
 abbrev pub ended : {A : Type 0} → Result A Failure → Result Conclusion Failure
@@ -41,6 +47,6 @@ module _ (texts : Option (List ℕ) → Option (List ℕ)) (order : RightsOrder)
       → OnOk r ((text : List ℕ) × IfSome left (λ told. text ≡ told) × Writes out out' (IsTable order text))
       → IfErr r (λ failure. (text : List ℕ) × IfSome left (λ told. text ≡ told)
       × rights.MayFail order text out out' failure)
-      → EndsRights texts order (ended r)
-  rights_end (Ok done) told fails = (told.0, of_policy told.0 told.1, out, out', told.2)
-  rights_end (Err failure) told fails = (fails.0, of_policy fails.0 fails.1, out, out', fails.2)
+      → EndsRights texts order out out' (ended r)
+  rights_end (Ok done) told fails = (told.0, of_policy told.0 told.1, told.2)
+  rights_end (Err failure) told fails = (fails.0, of_policy fails.0 fails.1, fails.2)

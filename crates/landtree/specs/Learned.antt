@@ -25,25 +25,28 @@ is_of_line byte = nat_le 32 byte && not (byte == 127)
 
 -- A file's name isn't one line; or one of the named files can't be read; or their lessons end like this, by the policy
 -- that is named
-abbrev pub EndsByChecks : (texts : Option (List ℕ) → Option (List ℕ)) → LearnOrder → Result Conclusion Failure → Type 0
-EndsByChecks texts order result =
-    ((result ≡ Err CommandLine) × (list_all (λ name. list_all is_of_line name) order.files ≡ false))
-    ⊎ (result ≡ Err File) ⊎ (result ≡ Err NoMemory)
-    ⊎ ((policy : List ℕ) × (sources : List Source) × (out out' : Option (List ℕ)) × (end : Result Checked Failure)
+abbrev pub EndsByChecks : (texts : Option (List ℕ) → Option (List ℕ)) → LearnOrder → (out out' : Option (List ℕ))
+    → Result Conclusion Failure → Type 0
+EndsByChecks texts order out out' result =
+    ((out' ≡ out) × (((result ≡ Err CommandLine)
+    × (list_all (λ name. list_all is_of_line name) order.files ≡ false))
+    ⊎ (result ≡ Err File) ⊎ (result ≡ Err NoMemory)))
+    ⊎ ((policy : List ℕ) × (sources : List Source) × (end : Result Checked Failure)
     × IsPolicyText texts order.policy policy × AllZip (IsSource texts) order.files sources
     × EndsLessons order policy sources out out' end × (result ≡ concluded end)
     × (list_all (λ name. list_all is_of_line name) order.files ≡ true))
 
 -- how it ends with the history of this name
 abbrev pub EndsByHistory : (texts : Option (List ℕ) → Option (List ℕ)) → LearnOrder → (history : List ℕ)
-    → Result Conclusion Failure → Type 0
-EndsByHistory texts order history result =
-    (text : List ℕ) × (out out' : Option (List ℕ)) × IfSome (texts (named history)) (λ told. text ≡ told)
-    × IsLearning order text out out' result
+    → (out out' : Option (List ℕ)) → Result Conclusion Failure → Type 0
+EndsByHistory texts order history out out' result =
+    (text : List ℕ) × IfSome (texts (named history)) (λ told. text ≡ told) × IsLearning order text out out' result
 
 -- words that ask for both or for neither are a fault, or memory runs out
 abbrev pub EndsLearned : (texts : Option (List ℕ) → Option (List ℕ)) → LearnOrder → Option Lesson
-    → Result Conclusion Failure → Type 0
-EndsLearned texts order None result = (result ≡ Err CommandLine) ⊎ (result ≡ Err NoMemory)
-EndsLearned texts order (Some (of_checks policy)) result = EndsByChecks texts order result
-EndsLearned texts order (Some (of_history history client)) result = EndsByHistory texts order history result
+    → (out out' : Option (List ℕ)) → Result Conclusion Failure → Type 0
+EndsLearned texts order None out out' result =
+    ((result ≡ Err CommandLine) ⊎ (result ≡ Err NoMemory)) × (out' ≡ out)
+EndsLearned texts order (Some (of_checks policy)) out out' result = EndsByChecks texts order out out' result
+EndsLearned texts order (Some (of_history history client)) out out' result =
+    EndsByHistory texts order history out out' result

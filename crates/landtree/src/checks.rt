@@ -1,16 +1,17 @@
 //! `check` and `export`, with the files that their words name.
 
-ghost use Rattle.std.specs.Prelude.{◌≡◌, ◌⊎◌, ℕ, true, false, List, Option, None, Some, Err, IfErr, IfOk, IfSome, OnOk};
+ghost use Rattle.std.specs.Prelude.{◌≡◌, ◌⊎◌, ℕ, true, false, List, Option, None, Some, Err, IfErr, IfOk, IfSome};
 ghost use Rattle.std.specs.Prelude.{map, option_map};
 ghost use Rattle.std.specs.List.{AllZip};
 ghost use Rattle.ll_program.specs.Sources.{named};
 ghost use Rattle.ll_program.specs.Options.{checked_in, exported_in, fits_check, fits_export};
 ghost use Rattle.ll_program.specs.Options.{is_checked};
 ghost use Rattle.ll_program.specs.Failure.{EndsExport};
-ghost use Rattle.ll_check.specs.Ends.{EndsCheck, FailsCheck, IsCheckedUnder, IsPolicyText, IsSource};
+ghost use Rattle.ll_check.specs.Ends.{BeginsCheck, EndsCheck, FailsCheck, IsCheckOf, IsCheckedUnder, IsPolicyText};
+ghost use Rattle.ll_check.specs.Ends.{IsSource};
 ghost use Rattle.ll_check.specs.Files.{source_of};
-ghost use Rattle.landtree.specs.Checked.{EndsChecked, IsExported, check_of};
-ghost use Rattle.ll_program.specs.Failure.{IsOfExport};
+ghost use Rattle.landtree.specs.Checked.{EndsChecked, WritesExport, check_of};
+ghost use Rattle.ll_wire.specs.Transcript.{Writes};
 ghost use Rattle.ll_commands.specs.Export as exports;
 
 use crate::hints::Hints;
@@ -18,9 +19,11 @@ use crate::misfits::Misfit;
 use ll_check::{CheckInput, NamedText, check};
 use ll_commands::{export, export_checked};
 use ll_program::{
-    CheckOptions, Checked, Conclusion, ExportOptions, Failure, Late, Sources, named, read_text,
+    CheckOptions, Checked, Conclusion, ExportOptions, Failure, Late, ReportForm, Sources, named,
+    read_text,
 };
 use ll_rights::limits::TREE_NODES;
+use std::io::Write;
 use std::sync::Wait;
 
 // Returns the whole text of this file.
@@ -95,16 +98,20 @@ pub(crate) fn texts_of<'a, S: Sources>(
 }
 
 // Checks the given files.
-fn check_files<S: Sources + Wait>(
+fn check_files<S: Sources + Wait, W: Write>(
     rt: &HostRuntime,
     sources: &S,
     options: &CheckOptions,
+    out: &mut W,
     hints: &mut Hints,
 ) -> Result<Checked, Failure>
     ensures checked { IfOk result (λ end. (policy : List ℕ)
         × IsPolicyText (S.texts sources.now) (checked_in options.now).policy policy
-        × IsCheckedUnder (S.texts sources.now) (checked_in options.now) policy end) }
+        × Writes (W.contents out.old) (W.contents out.new)
+        (IsCheckOf (S.texts sources.now) (checked_in options.now) policy end)) }
     ensures failure { IfErr result (FailsCheck (S.texts sources.now) (checked_in options.now)) }
+    ensures begun { IfErr result (BeginsCheck (S.texts sources.now) (checked_in options.now)
+        (W.contents out.old) (W.contents out.new)) }
 {
     let policy = match policy_text(rt, sources, options.policy, hints) {
         Ok(policy) => policy,
@@ -119,14 +126,7 @@ fn check_files<S: Sources + Wait>(
         policy: policy.as_slice(),
         files: files.as_slice(),
     };
-    let checked = check(
-        sources,
-        rt.alloc(),
-        &input,
-        &mut rt.stdout(),
-        &mut rt.stderr(),
-        hints,
-    );
+    let checked = check(sources, rt.alloc(), &input, out, &mut rt.stderr(), hints);
     if let Err(failure) = &checked {
         hints.of_check(options, failure, policy.as_slice());
     }
@@ -134,40 +134,42 @@ fn check_files<S: Sources + Wait>(
 }
 
 // Runs `check`.
-pub fn check_options<S: Sources + Wait>(
+pub fn check_options<S: Sources + Wait, W: Write>(
     rt: &HostRuntime,
     sources: &S,
     options: &CheckOptions,
+    out: &mut W,
     hints: &mut Hints,
 ) -> Result<Conclusion, Failure>
-    ensures unfit { fits_check (checked_in options.now) ≡ false → result ≡ Err Failure.CommandLine }
+    ensures unfit { fits_check (checked_in options.now) ≡ false
+        → (result ≡ Err Failure.CommandLine) × (W.contents out.new ≡ W.contents out.old) }
     ensures check { fits_check (checked_in options.now) ≡ true
-        → EndsCheck (S.texts sources.now) (checked_in options.now) result }
+        → EndsCheck (S.texts sources.now) (checked_in options.now) (W.contents out.old) (W.contents out.new) result }
 {
     if !options.fit() {
         hints.of_misfit(Misfit::of_check(options));
         return Err(Failure::CommandLine);
     }
-    match check_files(rt, sources, options, hints) {
+    match check_files(rt, sources, options, out, hints) {
         Ok(checked) => Ok(Conclusion::Checked(checked)),
         Err(failure) => Err(failure),
     }
 }
 
 // Writes the text of the exported profile.
-fn export_file<S: Sources>(
+fn export_file<S: Sources, W: Write>(
     rt: &HostRuntime,
     sources: &S,
     options: &ExportOptions,
+    out: &mut W,
     hints: &mut Hints,
-) -> Result<(), Failure>
-    ensures done { OnOk result ((policy written : List ℕ)
-        × IsPolicyText (S.texts sources.now) (Some (exported_in options.now).policy) policy
-        × exports.IsExport (exported_in options.now) policy written) }
+) -> Result<Conclusion, Failure>
+    ensures ends { EndsExport false result }
+    ensures written { WritesExport (S.texts sources.now) (exported_in options.now)
+        (W.contents out.old) (W.contents out.new) result }
     ensures told { IfErr result (λ failure. (text : List ℕ)
         × IfSome (S.texts sources.now (Some (exported_in options.now).policy)) (λ told. text ≡ told)
         × exports.MayFail (exported_in options.now) text failure) }
-    ensures failure { IfErr result IsOfExport }
 {
     let mut file = Late::keeping(
         rt.alloc(),
@@ -175,12 +177,15 @@ fn export_file<S: Sources>(
         Some(options.policy),
         hints.are_wanted(),
     );
-    let told = export(rt.alloc(), options, &mut file, &mut rt.stdout());
+    let told = export(rt.alloc(), options, &mut file, out);
     hints.of_input("policy", &file);
-    if let Err(failure) = &told {
-        hints.of_export(options, failure, file.text());
+    match told {
+        Ok(()) => Ok(Conclusion::Done),
+        Err(failure) => {
+            hints.of_export(options, &failure, file.text());
+            Err(failure)
+        }
     }
-    told
 }
 
 // Checks that a profile passes these files, by the policy with this text. What `check` prints goes to standard error.
@@ -205,6 +210,7 @@ fn check_profile<S: Sources + Wait>(
         profile: Some(options.profile),
         quiet: false,
         verbose: false,
+        form: Some(ReportForm::Text),
     };
     let input = CheckInput {
         options: &options,
@@ -222,35 +228,50 @@ fn check_profile<S: Sources + Wait>(
 }
 
 // Writes the text of the exported profile, by the policy with this text, if the profile passes the files of checks.
-fn export_policy<S: Sources + Wait>(
+fn export_policy<S: Sources + Wait, W: Write>(
     rt: &HostRuntime,
     sources: &S,
     options: &ExportOptions,
     policy: &[u8],
+    out: &mut W,
     hints: &mut Hints,
 ) -> Result<Conclusion, Failure>
     ensures ends { EndsExport true result }
+    ensures written { IsPolicyText (S.texts sources.now) (Some (exported_in options.now).policy) policy.now
+        → WritesExport (S.texts sources.now) (exported_in options.now)
+        (W.contents out.old) (W.contents out.new) result }
     ensures checked { IsPolicyText (S.texts sources.now) (Some (exported_in options.now).policy) policy.now
-        → EndsChecked (S.texts sources.now) (exported_in options.now) result }
+        → EndsChecked (S.texts sources.now) (exported_in options.now)
+        (W.contents out.old) (W.contents out.new) result }
 {
-    let checked = check_profile(rt, sources, options, policy, hints)?;
+    let checked = match check_profile(rt, sources, options, policy, hints) {
+        Ok(checked) => checked,
+        Err(failure) => return Err(failure),
+    };
     let mut text = policy;
-    export_checked(rt.alloc(), checked, options, &mut text, &mut rt.stdout())
+    export_checked(rt.alloc(), checked, options, &mut text, out)
 }
 
 // Writes the text of the exported profile, if the profile passes the files of checks. The policy is read once, so what
 // is exported is what was checked.
-fn export_profile<S: Sources + Wait>(
+fn export_profile<S: Sources + Wait, W: Write>(
     rt: &HostRuntime,
     sources: &S,
     options: &ExportOptions,
+    out: &mut W,
     hints: &mut Hints,
 ) -> Result<Conclusion, Failure>
     ensures ends { EndsExport true result }
-    ensures checked { EndsChecked (S.texts sources.now) (exported_in options.now) result }
+    ensures written { WritesExport (S.texts sources.now) (exported_in options.now)
+        (W.contents out.old) (W.contents out.new) result }
+    ensures checked { EndsChecked (S.texts sources.now) (exported_in options.now)
+        (W.contents out.old) (W.contents out.new) result }
 {
-    let policy = text_of(rt, sources, "policy", Some(options.policy), hints)?;
-    let ended = export_policy(rt, sources, options, policy.as_slice(), hints);
+    let policy = match text_of(rt, sources, "policy", Some(options.policy), hints) {
+        Ok(policy) => policy,
+        Err(failure) => return Err(failure),
+    };
+    let ended = export_policy(rt, sources, options, policy.as_slice(), out, hints);
     if let Err(failure) = &ended {
         hints.of_export(options, failure, Some(policy.as_slice()));
     }
@@ -258,27 +279,30 @@ fn export_profile<S: Sources + Wait>(
 }
 
 // Runs `export`.
-pub fn export_options<S: Sources + Wait>(
+pub fn export_options<S: Sources + Wait, W: Write>(
     rt: &HostRuntime,
     sources: &S,
     options: &ExportOptions,
+    out: &mut W,
     hints: &mut Hints,
 ) -> Result<Conclusion, Failure>
-    ensures unfit { fits_export (exported_in options.now) ≡ false → result ≡ Err Failure.CommandLine }
+    ensures unfit { fits_export (exported_in options.now) ≡ false
+        → (result ≡ Err Failure.CommandLine) × (W.contents out.new ≡ W.contents out.old) }
     ensures export { fits_export (exported_in options.now) ≡ true
         → EndsExport (is_checked (exported_in options.now)) result }
-    ensures done { fits_export (exported_in options.now) ≡ true
-        → IsExported (S.texts sources.now) (exported_in options.now) result }
+    ensures written { fits_export (exported_in options.now) ≡ true
+        → WritesExport (S.texts sources.now) (exported_in options.now)
+        (W.contents out.old) (W.contents out.new) result }
     ensures checked { fits_export (exported_in options.now) ≡ true → is_checked (exported_in options.now) ≡ true
-        → EndsChecked (S.texts sources.now) (exported_in options.now) result }
+        → EndsChecked (S.texts sources.now) (exported_in options.now)
+        (W.contents out.old) (W.contents out.new) result }
 {
     if !options.fit() {
         hints.of_misfit(Misfit::of_export(options));
         return Err(Failure::CommandLine);
     }
     if options.is_checked() {
-        return export_profile(rt, sources, options, hints);
+        return export_profile(rt, sources, options, out, hints);
     }
-    export_file(rt, sources, options, hints)?;
-    Ok(Conclusion::Done)
+    export_file(rt, sources, options, out, hints)
 }

@@ -1,24 +1,28 @@
 //! What each command does, with the files that its words name.
 
 ghost use Rattle.std.specs.Prelude.{◌≡◌, ℕ, true, false, List, Option, None, Some, Err, IfErr, IfOk, IfSome};
-ghost use Rattle.std.specs.Prelude.{option_map};
+ghost use Rattle.std.specs.Prelude.{OnOk, option_map};
+ghost use Rattle.std.specs.Io.KnownBytes.{Appends};
 ghost use Rattle.ll_program.specs.Sources.{named, text_in};
 ghost use Rattle.ll_program.specs.Options.{asked_by, fits, fits_schedule, fits_why};
 ghost use Rattle.ll_program.specs.Options.{fits_serve, order_in, rights_in, scheduled_in, served_in, why_in};
-ghost use Rattle.ll_program.specs.Failure.{EndsAudit, EndsSchedule, EndsServe, IsOfDevices};
+ghost use Rattle.ll_program.specs.Failure.{EndsAudit, FailsAudit};
 ghost use Rattle.ll_program.specs.Policy.{EndsRun, IsRun, MayFail};
 ghost use Rattle.ll_commands.specs.Rights.{EndsRights};
 ghost use Rattle.ll_commands.specs.Why.{EndsWhy, file_asked};
+ghost use Rattle.ll_commands.specs.Schedules.{EndsSchedule, FailsSchedule, RunsSchedule};
 ghost use Rattle.ll_commands.specs.Serving as serving;
-ghost use Rattle.ll_audit.specs.Saved.{Judges};
+ghost use Rattle.ll_commands.specs.Serving.{EndsServe, IsDone};
+ghost use Rattle.ll_audit.specs.Saved.{Judges, verdict_line};
 ghost use Rattle.ll_wire.specs.Pieces.{pieces};
 
 use crate::hints::Hints;
 use crate::misfits::Misfit;
 use ll_audit::Verdict;
+use ll_check::LinesOf;
 use ll_commands::{
-    Binds, Log, draw_in, explain_schedule, perform_schedule, serve, setup_by, tell_rights,
-    tell_why, window_by,
+    Binds, Log, draw_in, explain_schedule, schedule, serve, setup_by, tell_rights, tell_why,
+    window_by,
 };
 use ll_program::{
     Clash, Conclusion, Device, Failure, Late, NewFile, Purpose, Question, RightsOptions,
@@ -60,33 +64,36 @@ fn run_over<H: Wait, P: Read, R: Read, W: Write, F: Destination>(
     out: &mut W,
     file: &mut F,
 ) -> Result<Conclusion, Failure>
-    ensures done { IfOk result (λ end. (text : List ℕ) × (script' out out' blank file file' : Option (List ℕ))
+    ensures done { IfOk result (λ end. (text : List ℕ) × (script' blank file file' : Option (List ℕ))
         × IfSome (P.remaining policy.old) (λ told. text ≡ told)
-        × IsRun (order_in options.now) text end (R.remaining script.old) script' out out' blank file file') }
-    ensures failure { IfErr result (λ failure. (text : List ℕ) × IfSome (P.remaining policy.old) (λ told. text ≡ told)
-        × MayFail (order_in options.now) text failure) }
+        × IsRun (order_in options.now) text end (R.remaining script.old) script'
+        (W.contents out.old) (W.contents out.new) blank file file') }
+    ensures failure { IfErr result (λ failure. (text : List ℕ) × (script' : Option (List ℕ))
+        × IfSome (P.remaining policy.old) (λ told. text ≡ told)
+        × MayFail (order_in options.now) text (R.remaining script.old) script'
+        (W.contents out.old) (W.contents out.new) failure) }
 {
     run(rt, alloc, options, policy, script, out, file)
 }
 
 // Sets up the run, runs the script, and saves the history, if a file is named.
-fn run_script<S: Sources + Wait>(
+fn run_script<S: Sources + Wait, W: Write>(
     rt: &HostRuntime,
     sources: &S,
     options: &RunOptions,
+    out: &mut W,
     hints: &mut Hints,
 ) -> Result<Conclusion, Failure>
-    ensures { EndsRun (S.texts sources.now) (order_in options.now) result }
+    ensures { EndsRun (S.texts sources.now) (order_in options.now) (W.contents out.old) (W.contents out.new) result }
 {
     let keeps = hints.are_wanted();
-    let keeps_lines = keeps && options.strict;
     let mut policy = Late::keeping(
         rt.alloc(),
         sources,
         Some(options.policy.unwrap_or("")),
         keeps,
     );
-    let mut script = Late::keeping(rt.alloc(), sources, named(options.script), keeps_lines);
+    let mut script = Late::keeping(rt.alloc(), sources, named(options.script), keeps);
     let mut file = history_file(rt, options.save, keeps);
     let ended = run_over(
         sources,
@@ -94,7 +101,7 @@ fn run_script<S: Sources + Wait>(
         options,
         &mut policy,
         &mut script,
-        &mut rt.stdout(),
+        out,
         &mut file,
     );
     hints.of_input("policy", &policy);
@@ -105,14 +112,17 @@ fn run_script<S: Sources + Wait>(
 }
 
 // Runs `run`.
-pub fn run_options<S: Sources + Wait>(
+pub fn run_options<S: Sources + Wait, W: Write>(
     rt: &HostRuntime,
     sources: &S,
     options: &RunOptions,
+    out: &mut W,
     hints: &mut Hints,
 ) -> Result<Conclusion, Failure>
-    ensures unfit { fits (order_in options.now) ≡ false → result ≡ Err Failure.CommandLine }
-    ensures run { fits (order_in options.now) ≡ true → EndsRun (S.texts sources.now) (order_in options.now) result }
+    ensures unfit { fits (order_in options.now) ≡ false
+        → (result ≡ Err Failure.CommandLine) × (W.contents out.new ≡ W.contents out.old) }
+    ensures run { fits (order_in options.now) ≡ true
+        → EndsRun (S.texts sources.now) (order_in options.now) (W.contents out.old) (W.contents out.new) result }
 {
     if !options.fit() {
         hints.of_misfit(Misfit::of_run(options));
@@ -127,23 +137,26 @@ pub fn run_options<S: Sources + Wait>(
         hints.add(&clash);
         return Err(Failure::File);
     }
-    run_script(rt, sources, options, hints)
+    run_script(rt, sources, options, out, hints)
 }
 
 // Judges the history in the file with this name.
-fn judge_file<S: Sources>(
+fn judge_file<S: Sources, W: Write>(
     rt: &HostRuntime,
     sources: &S,
     file: &str,
+    out: &mut W,
     hints: &mut Hints,
 ) -> Result<Verdict, Failure>
     ensures verdict { IfOk result (λ verdict. IfSome (S.texts sources.now (named file.now))
         (λ bytes. Judges (pieces bytes) verdict)) }
-    ensures failure { IfErr result IsOfDevices }
+    ensures answer { IfOk result (λ verdict. Appends (W.contents out.old) (W.contents out.new) (verdict_line verdict)) }
+    ensures failure { IfErr result
+        (FailsAudit (S.texts sources.now (named file.now)) (W.contents out.old) (W.contents out.new)) }
 {
     let mut input = Late::keeping(rt.alloc(), sources, named(file), hints.are_wanted());
     let mut shown = Shown::new(rt.stderr(), rt.stderr().is_terminal());
-    let judged = audit(rt.alloc(), &mut input, &mut rt.stdout(), &mut shown);
+    let judged = audit(rt.alloc(), &mut input, out, &mut shown);
     hints.of_input("history", &input);
     if let Ok(verdict) = &judged
         && let Some(text) = input.text()
@@ -154,36 +167,45 @@ fn judge_file<S: Sources>(
 }
 
 // Runs `audit` on the file with this name.
-pub fn audit_file<S: Sources>(
+pub fn audit_file<S: Sources, W: Write>(
     rt: &HostRuntime,
     sources: &S,
     file: &str,
+    out: &mut W,
     hints: &mut Hints,
 ) -> Result<Conclusion, Failure>
-    ensures { EndsAudit (S.texts sources.now (named file.now)) result }
+    ensures { EndsAudit (S.texts sources.now (named file.now)) (W.contents out.old) (W.contents out.new) result }
 {
-    let verdict = judge_file(rt, sources, file, hints)?;
-    Ok(Conclusion::Judged(verdict))
+    match judge_file(rt, sources, file, out, hints) {
+        Ok(verdict) => Ok(Conclusion::Judged(verdict)),
+        Err(failure) => Err(failure),
+    }
 }
 
-// Adds hints on why steps of a schedule couldn't be made, and which walks are under way at its end.
+// Adds hints on which lines of a schedule spell no step, why steps couldn't be made, and which walks are under way at
+// its end.
 fn hint_at_steps(rt: &HostRuntime, options: &ScheduleOptions, text: &[u8], hints: &mut Hints) {
+    hints.of_bad_lines(LinesOf::Schedule, options.file, text);
     if let Some(reasons) = explain_schedule(rt.alloc(), setup_by(options), text) {
         hints.add(&reasons);
     }
 }
 
 // Runs a schedule, and adds hints.
-fn perform_and_tell<S: Sources>(
+fn perform_and_tell<S: Sources, W: Write>(
     rt: &HostRuntime,
     sources: &S,
     options: &ScheduleOptions,
+    out: &mut W,
     hints: &mut Hints,
 ) -> Result<(), Failure>
-    ensures { IfErr result IsOfDevices }
+    ensures told { OnOk result (RunsSchedule (scheduled_in options.now)
+        (S.texts sources.now (named (scheduled_in options.now).file)) (W.contents out.old) (W.contents out.new)) }
+    ensures failure { IfErr result (FailsSchedule (scheduled_in options.now)
+        (S.texts sources.now (named (scheduled_in options.now).file)) (W.contents out.old) (W.contents out.new)) }
 {
     let mut file = Late::keeping(rt.alloc(), sources, named(options.file), hints.are_wanted());
-    let ended = perform_schedule(rt.alloc(), setup_by(options), &mut file, &mut rt.stdout());
+    let ended = schedule(rt.alloc(), options, &mut file, out);
     hints.of_input("schedule", &file);
     if ended.is_ok()
         && let Some(text) = file.text()
@@ -194,18 +216,28 @@ fn perform_and_tell<S: Sources>(
 }
 
 // Reads a schedule whole, runs it, and draws it into the file with this name.
-fn perform_and_draw<R: Read>(
+fn perform_and_draw<R: Read, W: Write>(
     rt: &HostRuntime,
     options: &ScheduleOptions,
-    schedule: &mut R,
+    input: &mut R,
     path: &str,
+    out: &mut W,
     hints: &mut Hints,
 ) -> Result<(), Failure>
-    ensures { IfErr result IsOfDevices }
+    ensures told { OnOk result (RunsSchedule (scheduled_in options.now) (R.remaining input.old)
+        (W.contents out.old) (W.contents out.new)) }
+    ensures failure { IfErr result (FailsSchedule (scheduled_in options.now) (R.remaining input.old)
+        (W.contents out.old) (W.contents out.new)) }
 {
-    let text = read_text(rt.alloc(), schedule)?;
+    let text = match read_text(rt.alloc(), input) {
+        Ok(text) => text,
+        Err(failure) => return Err(failure),
+    };
     let mut lines = text.as_slice();
-    perform_schedule(rt.alloc(), setup_by(options), &mut lines, &mut rt.stdout())?;
+    match schedule(rt.alloc(), options, &mut lines, out) {
+        Ok(()) => {}
+        Err(failure) => return Err(failure),
+    }
     let mut file = NewFile::new(rt, path, "picture", false);
     let (setup, window) = (setup_by(options), window_by(options));
     let drawn = draw_in(rt.alloc(), setup, window, text.as_slice(), &mut file);
@@ -217,62 +249,69 @@ fn perform_and_draw<R: Read>(
 }
 
 // Runs a schedule, and draws it if a file is named.
-fn perform_file<S: Sources>(
+fn perform_file<S: Sources, W: Write>(
     rt: &HostRuntime,
     sources: &S,
     options: &ScheduleOptions,
+    out: &mut W,
     hints: &mut Hints,
 ) -> Result<(), Failure>
-    ensures { IfErr result IsOfDevices }
+    ensures told { OnOk result (RunsSchedule (scheduled_in options.now)
+        (S.texts sources.now (named (scheduled_in options.now).file)) (W.contents out.old) (W.contents out.new)) }
+    ensures failure { IfErr result (FailsSchedule (scheduled_in options.now)
+        (S.texts sources.now (named (scheduled_in options.now).file)) (W.contents out.old) (W.contents out.new)) }
 {
     let Some(path) = options.picture else {
-        return perform_and_tell(rt, sources, options, hints);
+        return perform_and_tell(rt, sources, options, out, hints);
     };
-    let mut schedule = Late::new(sources, named(options.file));
-    let ended = perform_and_draw(rt, options, &mut schedule, path, hints);
-    hints.of_input("schedule", &schedule);
+    let mut file = Late::new(sources, named(options.file));
+    let ended = perform_and_draw(rt, options, &mut file, path, out, hints);
+    hints.of_input("schedule", &file);
     ended
 }
 
 // Runs `schedule`.
-pub fn schedule_options<S: Sources>(
+pub fn schedule_options<S: Sources, W: Write>(
     rt: &HostRuntime,
     sources: &S,
     options: &ScheduleOptions,
+    out: &mut W,
     hints: &mut Hints,
 ) -> Result<Conclusion, Failure>
-    ensures unfit { fits_schedule (scheduled_in options.now) ≡ false → result ≡ Err Failure.CommandLine }
-    ensures schedule { fits_schedule (scheduled_in options.now) ≡ true → EndsSchedule result }
+    ensures unfit { fits_schedule (scheduled_in options.now) ≡ false
+        → (result ≡ Err Failure.CommandLine) × (W.contents out.new ≡ W.contents out.old) }
+    ensures schedule { fits_schedule (scheduled_in options.now) ≡ true
+        → EndsSchedule (S.texts sources.now) (scheduled_in options.now) (W.contents out.old) (W.contents out.new)
+        result }
 {
     if !options.fit() {
         hints.of_misfit(Misfit::of_schedule(options));
         return Err(Failure::CommandLine);
     }
-    let schedule = Purpose {
+    let file = Purpose {
         what: "schedule",
         device: Device::input(named(options.file)),
     };
-    if let Some(clash) = Clash::find(
-        rt,
-        "picture",
-        options.picture,
-        &[Some(schedule), Some(OUTPUT)],
-    ) {
+    if let Some(clash) = Clash::find(rt, "picture", options.picture, &[Some(file), Some(OUTPUT)]) {
         hints.add(&clash);
         return Err(Failure::File);
     }
-    perform_file(rt, sources, options, hints)?;
-    Ok(Conclusion::Done)
+    match perform_file(rt, sources, options, out, hints) {
+        Ok(()) => Ok(Conclusion::Done),
+        Err(failure) => Err(failure),
+    }
 }
 
 // Writes the rights of a policy's profile.
-fn tell_file<S: Sources>(
+fn tell_file<S: Sources, W: Write>(
     rt: &HostRuntime,
     sources: &S,
     options: &RightsOptions,
+    out: &mut W,
     hints: &mut Hints,
 ) -> Result<Conclusion, Failure>
-    ensures { EndsRights (S.texts sources.now) (rights_in options.now) result }
+    ensures { EndsRights (S.texts sources.now) (rights_in options.now) (W.contents out.old) (W.contents out.new)
+        result }
 {
     let mut file = Late::keeping(
         rt.alloc(),
@@ -280,7 +319,7 @@ fn tell_file<S: Sources>(
         Some(options.policy),
         hints.are_wanted(),
     );
-    let told = tell_rights(rt.alloc(), options, &mut file, &mut rt.stdout());
+    let told = tell_rights(rt.alloc(), options, &mut file, out);
     hints.of_input("policy", &file);
     match told {
         Ok(()) => Ok(Conclusion::Done),
@@ -292,15 +331,17 @@ fn tell_file<S: Sources>(
 }
 
 // Runs `rights`.
-pub fn rights_options<S: Sources>(
+pub fn rights_options<S: Sources, W: Write>(
     rt: &HostRuntime,
     sources: &S,
     options: &RightsOptions,
+    out: &mut W,
     hints: &mut Hints,
 ) -> Result<Conclusion, Failure>
-    ensures { EndsRights (S.texts sources.now) (rights_in options.now) result }
+    ensures { EndsRights (S.texts sources.now) (rights_in options.now) (W.contents out.old) (W.contents out.new)
+        result }
 {
-    let ended = tell_file(rt, sources, options, hints);
+    let ended = tell_file(rt, sources, options, out, hints);
     if ended.is_err() {
         hints.of_misfit(Misfit::of_rights(rt.alloc(), options));
     }
@@ -319,38 +360,44 @@ fn file_asked<'a>(options: &WhyOptions<'a>) -> Option<&'a str>
 }
 
 // Runs `why`.
-pub fn why_options<S: Sources>(
+pub fn why_options<S: Sources, W: Write>(
     rt: &HostRuntime,
     sources: &S,
     options: &WhyOptions,
+    out: &mut W,
     hints: &mut Hints,
 ) -> Result<Conclusion, Failure>
-    ensures unfit { fits_why (why_in options.now) ≡ false → result ≡ Err Failure.CommandLine }
+    ensures unfit { fits_why (why_in options.now) ≡ false
+        → (result ≡ Err Failure.CommandLine) × (W.contents out.new ≡ W.contents out.old) }
     ensures why { fits_why (why_in options.now) ≡ true
-        → EndsWhy (S.texts sources.now) (why_in options.now) result }
+        → EndsWhy (S.texts sources.now) (why_in options.now) (W.contents out.old) (W.contents out.new) result }
 {
     if !options.fit() {
         hints.of_misfit(Some(Misfit::NeitherEntryNorCommand));
         return Err(Failure::CommandLine);
     }
     let mut file = Late::keeping(rt.alloc(), sources, file_asked(options), hints.are_wanted());
-    let told = tell_why(rt.alloc(), options, &mut file, &mut rt.stdout());
+    let told = tell_why(rt.alloc(), options, &mut file, out);
     hints.of_input("file", &file);
     hints.of_question(options, &told, &file);
     told
 }
 
 // Serves the streams that come to a port, and saves the history, if a file is named.
-fn serve_port<S: Sources + Threads + Wait + Sync, B: Binds>(
+fn serve_port<S: Sources + Threads + Wait + Sync, B: Binds, W: Write>(
     rt: &HostRuntime,
     sources: &S,
     ports: &B,
     options: &ServeOptions,
+    out: &mut W,
     hints: &mut Hints,
 ) -> Result<(), Failure>
-    ensures { IfErr result (λ failure. (text : List ℕ) × (out out' file file' : Option (List ℕ))
+    ensures done { OnOk result ((text : List ℕ) × (blank file file' : Option (List ℕ))
         × IfSome (text_in (S.texts sources.now) (served_in options.now).policy) (λ told. text ≡ told)
-        × serving.MayFail (served_in options.now) text out out' file file' failure) }
+        × IsDone (served_in options.now) text (W.contents out.old) (W.contents out.new) blank file file') }
+    ensures failure { IfErr result (λ failure. (text : List ℕ) × (file file' : Option (List ℕ))
+        × IfSome (text_in (S.texts sources.now) (served_in options.now).policy) (λ told. text ≡ told)
+        × serving.MayFail (served_in options.now) text (W.contents out.old) (W.contents out.new) file file' failure) }
 {
     let log = Log::new(
         sources,
@@ -374,7 +421,7 @@ fn serve_port<S: Sources + Threads + Wait + Sync, B: Binds>(
         options,
         ports,
         &mut policy,
-        &mut rt.stdout(),
+        out,
         &log,
         &mut file,
     );
@@ -385,15 +432,18 @@ fn serve_port<S: Sources + Threads + Wait + Sync, B: Binds>(
 }
 
 // Runs `serve`.
-pub fn serve_options<S: Sources + Threads + Wait + Sync, B: Binds>(
+pub fn serve_options<S: Sources + Threads + Wait + Sync, B: Binds, W: Write>(
     rt: &HostRuntime,
     sources: &S,
     ports: &B,
     options: &ServeOptions,
+    out: &mut W,
     hints: &mut Hints,
 ) -> Result<Conclusion, Failure>
-    ensures unfit { fits_serve (served_in options.now) ≡ false → result ≡ Err Failure.CommandLine }
-    ensures serve { fits_serve (served_in options.now) ≡ true → EndsServe (served_in options.now).profile result }
+    ensures unfit { fits_serve (served_in options.now) ≡ false
+        → (result ≡ Err Failure.CommandLine) × (W.contents out.new ≡ W.contents out.old) }
+    ensures serve { fits_serve (served_in options.now) ≡ true
+        → EndsServe (S.texts sources.now) (served_in options.now) (W.contents out.old) (W.contents out.new) result }
 {
     if !options.fit() {
         hints.of_misfit(Misfit::of_serve(options));
@@ -404,11 +454,11 @@ pub fn serve_options<S: Sources + Threads + Wait + Sync, B: Binds>(
         hints.add(&clash);
         return Err(Failure::File);
     }
-    match serve_port(rt, sources, ports, options, hints) {
+    match serve_port(rt, sources, ports, options, out, hints) {
         Ok(()) => Ok(Conclusion::Done),
         Err(failure) => {
             if let Failure::Socket = failure {
-                hints.of_port(options.port);
+                hints.of_port(rt, options.port);
             }
             Err(failure)
         }

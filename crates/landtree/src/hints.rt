@@ -10,17 +10,24 @@ use crate::refusal::refused_text;
 use ll_audit::{Saved, Verdict};
 use ll_check::{Blame, DeniedTest, LinesOf, Notes, explain};
 use ll_commands::flaw_of;
-use ll_policy::{Policy, first_fault};
+use ll_policy::{PlacedFault, Policy, policy_faults, read_document, toml_trouble};
 use ll_program::{Failure, Late, NewFile, Sources};
 use ll_rights::Errno;
 use ll_why::{explain_entry, why_not};
-use ll_wire::{Header, escaped, read_command, shown, write_whole};
+use ll_wire::{Header, escaped, read_command, read_schedule_line, shown, split_line, write_whole};
 use std::alloc::{AllocError, Global};
 use std::fmt::Display;
 use std::io::Write;
+use std::net::{Ipv4Addr, TcpListener};
 
 /// The most failed tests whose denials are explained. For each, the entries before it are made again.
 const DENIALS: usize = 20;
+
+/// The most faults of a policy, and the most bad lines, that are explained.
+const FAULTS: usize = 20;
+
+/// What some editors write before the first line.
+const BYTE_ORDER_MARK: &[u8] = b"\xef\xbb\xbf";
 
 // Returns the line with this number, from 1, without its line feed; no bytes if there is none.
 fn line_at(text: &[u8], number: usize) -> &[u8] {
@@ -32,6 +39,95 @@ fn line_at(text: &[u8], number: usize) -> &[u8] {
         }
     }
     &[]
+}
+
+// Returns what makes a history's line with this number malformed though it looks well, if that is seen.
+fn line_trouble(text: &[u8], number: usize) -> Option<&'static str> {
+    let line = line_at(text, number);
+    if number == 1 && line.starts_with(BYTE_ORDER_MARK) {
+        return Some("a byte order mark stands before it");
+    }
+    if line.ends_with(b"\r") {
+        return Some("it ends with a carriage return before the line feed");
+    }
+    if number == 1 && is_newer(line) {
+        return Some("the history is of a newer version: this program reads 1 to 3");
+    }
+    let is_last = text.split(|b| *b == b'\n').count() == number;
+    if is_last && !line.is_empty() {
+        return Some("the line feed at its end is missing");
+    }
+    None
+}
+
+// Reports whether a header is of a version that doesn't exist yet.
+fn is_newer(line: &[u8]) -> bool {
+    let Ok(text) = str::from_utf8(line) else {
+        return false;
+    };
+    let Some(rest) = text.strip_prefix("landtree-history ") else {
+        return false;
+    };
+    match rest.split(' ').next() {
+        Some(version) => matches!(version.parse::<u64>(), Ok(4..)),
+        None => false,
+    }
+}
+
+// Reports whether a line may bring a client.
+fn is_coming(line: &[u8]) -> bool {
+    line.ends_with(b"spawn\n") || line == b"connect\n".as_slice()
+}
+
+// Reports whether the line spells no step, if at most so many clients have come.
+fn is_no_step(alloc: Global, line: &[u8], come: u64) -> bool {
+    match read_schedule_line(alloc, line, come) {
+        Ok(step) => {
+            drop(step);
+            false
+        }
+        Err(errno) => errno == Errno::BadLine,
+    }
+}
+
+// Reports whether the line spells no command, if at most so many clients have come, apart from a script's first.
+fn is_no_command(alloc: Global, line: &[u8], come: u64) -> bool {
+    match read_command(alloc, line, come.saturating_add(1)) {
+        Ok(command) => {
+            drop(command);
+            false
+        }
+        Err(errno) => errno == Errno::BadLine,
+    }
+}
+
+// Reports whether the line spells no command, or no step, if at most so many clients have come.
+fn is_bad(alloc: Global, of: LinesOf, line: &[u8], come: u64) -> bool {
+    match of {
+        LinesOf::Schedule => is_no_step(alloc, line, come),
+        LinesOf::Script | LinesOf::Checks | LinesOf::Word => is_no_command(alloc, line, come),
+    }
+}
+
+// Returns the numbers, from 1, of the first lines that spell nothing, whoever has come. The rest is left out if memory
+// runs out.
+fn bad_lines(alloc: Global, of: LinesOf, text: &[u8]) -> Vec<usize> {
+    let mut found = Vec::new(alloc);
+    let mut rest = text;
+    let mut number: usize = 0;
+    let mut come: u64 = 0;
+    while !rest.is_empty() && found.len() < FAULTS {
+        let (line, more) = split_line(rest);
+        number = number.saturating_add(1);
+        if is_bad(alloc, of, line, come) && found.push(number).is_err() {
+            return found;
+        }
+        if is_coming(line) {
+            come = come.saturating_add(1);
+        }
+        rest = more;
+    }
+    found
 }
 
 // Returns a line of hints, indented by two spaces, safe for a terminal.
@@ -52,6 +148,21 @@ fn push_line(alloc: Global, text: &mut String, line: &[u8]) -> Result<(), AllocE
 {
     let line = line_of(alloc, line)?;
     text.push_str(line.as_str())
+}
+
+// Returns which profiles a policy has.
+fn names_text(alloc: Global, names: &[&str]) -> Result<String, AllocError> {
+    if names.is_empty() {
+        return String::from_str(alloc, "it has none");
+    }
+    let mut text = String::from_str(alloc, "it has")?;
+    let mut parting = " ";
+    for name in names {
+        text.push_str(parting)?;
+        text.push_str(name)?;
+        parting = ", ";
+    }
+    Ok(text)
 }
 
 // Returns the policy with this text, if it has no fault and there is memory for it.
@@ -171,18 +282,47 @@ impl Hints {
         }
     }
 
-    // Adds where the policy's first fault is, and what would be right there.
+    // Adds what is wrong at a fault of the policy with this name and text.
+    fn of_fault(&mut self, name: &str, text: &str, fault: &PlacedFault<'_>) {
+        let Ok(told) = fault.text(self.alloc) else {
+            return;
+        };
+        let _ = match fault.line(text) {
+            Some(line) => match format!(in self.alloc; "{name}:{line}") {
+                Ok(place) => self.push_named(place.as_str(), told.as_str()),
+                Err(_) => Ok(()),
+            },
+            None => self.push_named(name, told.as_str()),
+        };
+    }
+
+    // Adds all faults of a policy, in their order, and what would be right there; of many only the first.
     fn of_policy(&mut self, given: &Given<'_>) {
         let Ok(text) = str::from_utf8(given.text) else {
             self.add(&"the policy's bytes are no UTF-8");
             return;
         };
-        if let Ok(Some(blamed)) = first_fault(self.alloc, text) {
-            let _ = self.push_named(given.name, blamed.as_str());
+        let Ok(table) = read_document(self.alloc, text) else {
+            if let Ok(Some(told)) = toml_trouble(self.alloc, text) {
+                let _ = self.push_named(given.name, told.as_str());
+            }
+            return;
+        };
+        let Ok(faults) = policy_faults(self.alloc, &table) else {
+            return;
+        };
+        for fault in faults.iter().take(FAULTS) {
+            self.of_fault(given.name, text, fault);
+        }
+        if faults.len() > FAULTS {
+            let more = faults.len() - FAULTS;
+            if let Ok(told) = format!(in self.alloc; "and {more} more") {
+                let _ = self.push(told.as_str());
+            }
         }
     }
 
-    // Adds that the policy doesn't have the profile asked for, if so.
+    // Adds that the policy doesn't have the profile asked for, if so, and which it has.
     fn of_profile(&mut self, given: &Given<'_>) {
         if let Some(profile) = given.profile
             && let Some(policy) = policy_of(self.alloc, given.text)
@@ -191,6 +331,11 @@ impl Hints {
             let name = given.name;
             if let Ok(told) = format!(in self.alloc; "the policy {name} has no profile {profile}") {
                 let _ = self.push(told.as_str());
+            }
+            if let Ok(names) = policy.names(self.alloc)
+                && let Ok(told) = names_text(self.alloc, &names)
+            {
+                let _ = self.push_shown(told.as_str());
             }
         }
     }
@@ -236,6 +381,9 @@ impl Hints {
             && let Ok(told) = format!(in self.alloc; "{name}:{number}: {line}")
         {
             let _ = self.push(told.as_str());
+        }
+        if let Some(trouble) = line_trouble(text, number) {
+            self.add(&trouble);
         }
     }
 
@@ -284,6 +432,18 @@ impl Hints {
         }
     }
 
+    /// Adds what was expected in the lines of a script, or of a schedule, that spell nothing, whoever has come; of many
+    /// only the first.
+    pub fn of_bad_lines(&mut self, of: LinesOf, name: &str, text: &[u8]) {
+        if !self.is_wanted {
+            return;
+        }
+        let lines = bad_lines(self.alloc, of, text);
+        for number in &lines {
+            self.of_command(of, name, text, *number);
+        }
+    }
+
     // Adds why a history's entry with this number isn't legal, and how to ask for the rest.
     fn of_entry(&mut self, name: &str, text: &[u8], entry: usize) {
         if let Ok(saved) = Saved::read(self.alloc, text)
@@ -324,11 +484,14 @@ impl Hints {
         }
     }
 
-    /// Adds that no stream can come to this port of this machine.
-    pub fn of_port(&mut self, port: u16) {
-        let told = format!(in self.alloc;
-            "cannot listen at port {port} of 127.0.0.1: another program does, or this one may not"
-        );
+    /// Adds that no stream can come to this port of this machine, and why: the system is asked once more.
+    pub fn of_port(&mut self, rt: &HostRuntime, port: u16) {
+        let told = match TcpListener::bind(rt, (Ipv4Addr::LOCALHOST, port)) {
+            Ok(_) => format!(in self.alloc; "cannot listen at port {port} of 127.0.0.1"),
+            Err(error) => {
+                format!(in self.alloc; "cannot listen at port {port} of 127.0.0.1: {error}")
+            }
+        };
         if let Ok(told) = told {
             let _ = self.push(told.as_str());
         }

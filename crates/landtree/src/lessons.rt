@@ -1,6 +1,6 @@
 //! Runs `learn`: a profile of what files of checks need, or of what a saved history did.
 
-ghost use Rattle.std.specs.Prelude.{◌≡◌, ℕ, List, Option, IfSome, map};
+ghost use Rattle.std.specs.Prelude.{◌≡◌, ℕ, List, IfSome, map};
 ghost use Rattle.std.specs.List.{list_all};
 ghost use Rattle.ll_program.specs.Options.{learn_in, lessons_by};
 ghost use Rattle.ll_check.specs.Files.{source_of};
@@ -60,8 +60,8 @@ fn learn_over<R: Wait, W: Write, E: Write, N: Notes>(
     err: &mut E,
     notes: &mut N,
 ) -> Result<Checked, Failure>
-    ensures { (before after : Option (List ℕ)) × EndsLessons (learn_in input.now.options.now) input.now.policy.now
-        (map source_of input.now.files.now) before after result }
+    ensures { EndsLessons (learn_in input.now.options.now) input.now.policy.now (map source_of input.now.files.now)
+        (W.contents out.old) (W.contents out.new) result }
 {
     learn_files(rt, alloc, input, out, err, notes)
 }
@@ -75,9 +75,8 @@ fn learn_from<R: Read, W: Write, E: Write>(
     out: &mut W,
     err: &mut E,
 ) -> Result<Conclusion, Failure>
-    ensures { (text : List ℕ) × (before after : Option (List ℕ))
-        × IfSome (R.remaining file.old) (λ told. text ≡ told)
-        × IsLearning (learn_in options.now) text before after result }
+    ensures { (text : List ℕ) × IfSome (R.remaining file.old) (λ told. text ≡ told)
+        × IsLearning (learn_in options.now) text (W.contents out.old) (W.contents out.new) result }
 {
     let learned = match learn_history(alloc, options, file) {
         Ok(learned) => learned,
@@ -87,13 +86,15 @@ fn learn_from<R: Read, W: Write, E: Write>(
 }
 
 // Learns from the files of checks.
-fn learn_checks<S: Sources + Wait>(
+fn learn_checks<S: Sources + Wait, W: Write>(
     rt: &HostRuntime,
     sources: &S,
     options: &LearnOptions,
+    out: &mut W,
     hints: &mut Hints,
 ) -> Result<Conclusion, Failure>
-    ensures { EndsByChecks (S.texts sources.now) (learn_in options.now) result }
+    ensures { EndsByChecks (S.texts sources.now) (learn_in options.now) (W.contents out.old) (W.contents out.new)
+        result }
 {
     if !are_lines(options.files.as_slice()) {
         hints.of_misfit(Some(Misfit::ControlCharacter));
@@ -112,14 +113,7 @@ fn learn_checks<S: Sources + Wait>(
         policy: policy.as_slice(),
         files: files.as_slice(),
     };
-    let ended = learn_over(
-        sources,
-        rt.alloc(),
-        &input,
-        &mut rt.stdout(),
-        &mut rt.stderr(),
-        hints,
-    );
+    let ended = learn_over(sources, rt.alloc(), &input, out, &mut rt.stderr(), hints);
     match ended {
         Ok(end) => Ok(ended_by(end)),
         Err(failure) => {
@@ -130,14 +124,16 @@ fn learn_checks<S: Sources + Wait>(
 }
 
 // Learns from the saved history with this name.
-fn learn_saved<S: Sources>(
+fn learn_saved<S: Sources, W: Write>(
     rt: &HostRuntime,
     sources: &S,
     options: &LearnOptions,
     history: &str,
+    out: &mut W,
     hints: &mut Hints,
 ) -> Result<Conclusion, Failure>
-    ensures { EndsByHistory (S.texts sources.now) (learn_in options.now) history.now result }
+    ensures { EndsByHistory (S.texts sources.now) (learn_in options.now) history.now
+        (W.contents out.old) (W.contents out.new) result }
 {
     let mut file = Late::keeping(rt.alloc(), sources, named(history), hints.are_wanted());
     let ended = learn_from(
@@ -145,7 +141,7 @@ fn learn_saved<S: Sources>(
         options,
         history,
         &mut file,
-        &mut rt.stdout(),
+        out,
         &mut rt.stderr(),
     );
     hints.of_input("history", &file);
@@ -153,17 +149,21 @@ fn learn_saved<S: Sources>(
 }
 
 /// Runs `learn`.
-pub fn learn_options<S: Sources + Wait>(
+pub fn learn_options<S: Sources + Wait, W: Write>(
     rt: &HostRuntime,
     sources: &S,
     options: &LearnOptions,
+    out: &mut W,
     hints: &mut Hints,
 ) -> Result<Conclusion, Failure>
-    ensures { EndsLearned (S.texts sources.now) (learn_in options.now) (lessons_by (learn_in options.now)) result }
+    ensures { EndsLearned (S.texts sources.now) (learn_in options.now) (lessons_by (learn_in options.now))
+        (W.contents out.old) (W.contents out.new) result }
 {
     match options.lessons() {
-        Some(Lessons::Checks(_)) => learn_checks(rt, sources, options, hints),
-        Some(Lessons::History(history, _)) => learn_saved(rt, sources, options, history, hints),
+        Some(Lessons::Checks(_)) => learn_checks(rt, sources, options, out, hints),
+        Some(Lessons::History(history, _)) => {
+            learn_saved(rt, sources, options, history, out, hints)
+        }
         None => {
             hints.of_misfit(Some(Misfit::NeitherChecksNorHistory));
             Err(Failure::CommandLine)

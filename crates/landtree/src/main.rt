@@ -26,12 +26,12 @@ use hints::Hints;
 use lessons::learn_options;
 use ll_commands::{Binds, Loopback};
 use ll_program::{Conclusion, Failure, Options, Sources, Standard, concluded};
-use std::io::IsTerminal;
+use std::io::{IsTerminal, Write};
 use std::process::ExitCode;
 use std::sync::Wait;
 use std::thread::Threads;
 use std::{env, io};
-use wanted::{are_wanted, without_wish};
+use wanted::{are_wanted, without_wishes};
 
 fn words_of(rt: &HostRuntime, hints: &mut Hints) -> Result<Vec<String>, Failure> {
     match env::args(rt) {
@@ -62,33 +62,35 @@ fn told(rt: &HostRuntime, error: &clap::Error, hints: &mut Hints) -> Result<Conc
 }
 
 // Runs the command that the words ask for.
-fn carry_out<S: Sources + Threads + Wait + Sync, B: Binds>(
+fn carry_out<S: Sources + Threads + Wait + Sync, B: Binds, W: Write>(
     rt: &HostRuntime,
     sources: &S,
     ports: &B,
     options: &Options,
+    out: &mut W,
     hints: &mut Hints,
 ) -> Result<Conclusion, Failure>
-    ensures { Ends (S.texts sources.now) (ordered_in options.now) result }
+    ensures { Ends (S.texts sources.now) (ordered_in options.now) (W.contents out.old) (W.contents out.new) result }
 {
     match options {
-        Options::Run(options) => run_options(rt, sources, options, hints),
-        Options::Schedule(options) => schedule_options(rt, sources, options, hints),
-        Options::Rights(options) => rights_options(rt, sources, options, hints),
-        Options::Audit(file) => audit_file(rt, sources, file, hints),
-        Options::Check(options) => check_options(rt, sources, options, hints),
-        Options::Serve(options) => serve_options(rt, sources, ports, options, hints),
-        Options::Export(options) => export_options(rt, sources, options, hints),
-        Options::Why(options) => why_options(rt, sources, options, hints),
-        Options::Learn(options) => learn_options(rt, sources, options, hints),
+        Options::Run(options) => run_options(rt, sources, options, out, hints),
+        Options::Schedule(options) => schedule_options(rt, sources, options, out, hints),
+        Options::Rights(options) => rights_options(rt, sources, options, out, hints),
+        Options::Audit(file) => audit_file(rt, sources, file, out, hints),
+        Options::Check(options) => check_options(rt, sources, options, out, hints),
+        Options::Serve(options) => serve_options(rt, sources, ports, options, out, hints),
+        Options::Export(options) => export_options(rt, sources, options, out, hints),
+        Options::Why(options) => why_options(rt, sources, options, out, hints),
+        Options::Learn(options) => learn_options(rt, sources, options, out, hints),
     }
 }
 
-fn run_words<S: Sources + Threads + Wait + Sync, B: Binds>(
+fn run_words<S: Sources + Threads + Wait + Sync, B: Binds, W: Write>(
     rt: &HostRuntime,
     sources: &S,
     ports: &B,
     words: &[&str],
+    out: &mut W,
     hints: &mut Hints,
 ) -> Result<Conclusion, Failure>
     ensures ok { OnOk result (EndsWell (fault_of landtree (map (λ w. w.now) words.now))) }
@@ -96,20 +98,30 @@ fn run_words<S: Sources + Threads + Wait + Sync, B: Binds>(
         → (result ≡ Err Failure.CommandLine) ⊎ (result ≡ Err Failure.NoMemory) }
     // If clap finds no fault.
     ensures ends { (order : Order) → fault_of landtree (map (λ w. w.now) words.now) ≡ []
-        → ordered_by (map (λ w. w.now) words.now) ≡ Some order → Ends (S.texts sources.now) order result }
+        → ordered_by (map (λ w. w.now) words.now) ≡ Some order
+        → Ends (S.texts sources.now) order (W.contents out.old) (W.contents out.new) result }
 {
     match Options::read(rt.alloc(), words) {
-        Ok(options) => carry_out(rt, sources, ports, &options, hints),
+        Ok(options) => carry_out(rt, sources, ports, &options, out, hints),
         Err(error) => told(rt, &error, hints),
+    }
+}
+
+// Reports whether the environment asks for hints.
+fn is_asked_by_environment(rt: &HostRuntime) -> bool {
+    match env::var(rt, "LANDTREE_EXPLAIN") {
+        Ok(value) => value.as_str() == "1",
+        Err(_) => false,
     }
 }
 
 // Runs what the program's words ask for, and prints how it ended. Errors: the words can't be read, and nothing is
 // printed.
-fn run_program<S: Sources + Threads + Wait + Sync, B: Binds>(
+fn run_program<S: Sources + Threads + Wait + Sync, B: Binds, W: Write>(
     rt: &HostRuntime,
     sources: &S,
     ports: &B,
+    out: &mut W,
     hints: &mut Hints,
 ) -> Result<ExitCode, Failure> {
     // Until the words are known.
@@ -122,22 +134,24 @@ fn run_program<S: Sources + Threads + Wait + Sync, B: Binds>(
     else {
         return Err(Failure::NoMemory);
     };
-    hints.want(are_wanted(words.as_slice(), rt.stderr().is_terminal()));
-    let Ok(words) = without_wish(rt.alloc(), words.as_slice()) else {
+    let Ok(rest) = without_wishes(rt.alloc(), words.as_slice()) else {
         return Err(Failure::NoMemory);
     };
-    let ended = run_words(rt, sources, ports, words.as_slice(), hints);
-    Ok(concluded(rt, ended))
+    let is_asked = rt.stderr().is_terminal() || is_asked_by_environment(rt);
+    hints.want(are_wanted(words.as_slice(), rest.as_slice(), is_asked));
+    let ended = run_words(rt, sources, ports, rest.as_slice(), out, hints);
+    Ok(concluded(&ended, &mut rt.stderr()).status)
 }
 
 fn main(rt: HostRuntime) -> ExitCode {
     let Ok(_standard) = Standard::hold(&rt) else {
-        return concluded(&rt, Err(Failure::File));
+        return concluded(&Err(Failure::File), &mut rt.stderr()).status;
     };
     let mut hints = Hints::new(rt.alloc());
-    let status = match run_program(&rt, &rt, &Loopback { rt: &rt }, &mut hints) {
+    let ports = Loopback { rt: &rt };
+    let status = match run_program(&rt, &rt, &ports, &mut rt.stdout(), &mut hints) {
         Ok(status) => status,
-        Err(failure) => concluded(&rt, Err(failure)),
+        Err(failure) => concluded(&Err(failure), &mut rt.stderr()).status,
     };
     hints.tell(&mut rt.stderr());
     status

@@ -2,7 +2,8 @@
 
 use ll_path::{Path, Word};
 use ll_program::{
-    CheckOptions, ExportOptions, RightsOptions, RunOptions, ScheduleOptions, ServeOptions,
+    CheckOptions, ExportOptions, ReportForm, RightsOptions, RunOptions, ScheduleOptions,
+    ServeOptions,
 };
 use std::alloc::Global;
 use std::fmt;
@@ -18,6 +19,9 @@ pub enum Misfit<'a> {
     /// This file would be written over what is read.
     WritesOverInput(&'a str),
     QuietAndVerbose,
+    NoSuchReport,
+    /// A report for another program has all tests.
+    PartOfReport,
     /// Lines are chosen without a picture.
     LinesOfNoPicture,
     /// The first of the chosen lines is after the last.
@@ -48,6 +52,10 @@ impl Display for Misfit<'_> {
             ),
             Misfit::WritesOverInput(name) => write!(f, "{name} would be written over, and is read"),
             Misfit::QuietAndVerbose => f.write_str("--quiet and --verbose don't go together"),
+            Misfit::NoSuchReport => f.write_str("--as is followed by tap, junit or json"),
+            Misfit::PartOfReport => f.write_str(
+                "--quiet and --verbose have no place beside --as, which prints all tests",
+            ),
             Misfit::LinesOfNoPicture => {
                 f.write_str("--from and --to choose the lines of a picture: --picture OUT")
             }
@@ -157,8 +165,16 @@ impl<'a> Misfit<'a> {
 
     /// Returns the misfit in the words of `check`.
     pub fn of_check(options: &CheckOptions<'a>) -> Option<Misfit<'a>> {
-        if options.quiet && options.verbose {
-            return Some(Misfit::QuietAndVerbose);
+        match options.form {
+            None => return Some(Misfit::NoSuchReport),
+            Some(ReportForm::Text) if options.quiet && options.verbose => {
+                return Some(Misfit::QuietAndVerbose);
+            }
+            Some(ReportForm::Tap | ReportForm::Junit | ReportForm::Json)
+                if options.quiet || options.verbose => {
+                return Some(Misfit::PartOfReport);
+            }
+            Some(_) => {}
         }
         of_setup(options.level.is_some(), options.policy, options.profile)
     }

@@ -2,6 +2,7 @@
 
 use crate::given::Given;
 use crate::hints::Hints;
+use ll_check::LinesOf;
 use ll_program::{
     CheckOptions, Conclusion, ExportOptions, Failure, Late, LearnOptions, Question, RightsOptions,
     RunOptions, ServeOptions, Sources, WhyOptions,
@@ -9,7 +10,7 @@ use ll_program::{
 use ll_rights::limits::{HISTORY_ENTRIES, TREE_NODES};
 
 impl Hints {
-    /// Adds hints for `run`: a line of a strict script spells no command, or the policy is the reason.
+    /// Adds hints for `run`: lines of the script spell no command, or the policy is the reason.
     pub fn of_run<S: Sources>(
         &mut self,
         options: &RunOptions,
@@ -17,11 +18,16 @@ impl Hints {
         policy: &Late<'_, S>,
         script: &Late<'_, S>,
     ) {
-        if let Ok(Conclusion::Stopped(stopped)) = ended
-            && let Some(line) = stopped.bad_line
-            && let Some(text) = script.text()
-        {
-            self.of_bad_line(options.script, text, line);
+        if let Some(text) = script.text() {
+            match ended {
+                Ok(Conclusion::Stopped(stopped)) => {
+                    if let Some(line) = stopped.bad_line {
+                        self.of_bad_line(options.script, text, line);
+                    }
+                }
+                Ok(_) => self.of_bad_lines(LinesOf::Script, options.script, text),
+                Err(_) => {}
+            }
         }
         let (nodes, history) = (options.nodes, options.history);
         let given = Given::new(

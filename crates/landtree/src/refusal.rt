@@ -9,7 +9,7 @@ use crate::given::Given;
 use ll_check::{ProfileProgress, answered_text, is_refused, profile_call_text};
 use ll_plain::Plain;
 use ll_policy::Policy;
-use ll_rights::Errno;
+use ll_rights::{Abi, Access, Errno, Kind};
 use ll_seq::{Call, Reply, Rules};
 use std::alloc::{AllocError, Global};
 
@@ -118,14 +118,118 @@ fn call_text(alloc: Global, comer: Comer<'_>, stop: &Stop<'_>) -> Result<String,
     }
 }
 
-// Returns that text, and for a full history the option that makes it longer.
-fn stop_text(alloc: Global, comer: Comer<'_>, stop: &Stop<'_>) -> Result<String, AllocError> {
+/// What a refused call of a policy rests on.
+#[derive(Drop)]
+struct Ground<'a> {
+    abi: Abi,
+    /// The calls that create the policy's nodes.
+    nodes: &'a [Call],
+}
+
+impl Ground<'_> {
+    // Returns the kind of the node that the policy has at this path, if it has one.
+    fn kind_at(&self, path: &str) -> Option<Kind> {
+        for call in self.nodes {
+            if let Call::Make(kind, target) = call
+                && target.as_str() == path
+            {
+                return Some(*kind);
+            }
+        }
+        None
+    }
+}
+
+// Returns the set that the ruleset with this number handles, the last of those that these calls create.
+fn handled(calls: &[Call]) -> Access {
+    let mut handled = Access(0);
+    for call in calls {
+        if let Call::Ruleset(rights) = call {
+            handled = *rights;
+        }
+    }
+    handled
+}
+
+// Returns the rights of the set that aren't among these.
+fn beyond(set: Access, others: Access) -> Access {
+    Access(set.0 & !others.0)
+}
+
+// Returns why a rule may not have these rights, if its layer or its node is the reason.
+fn rule_cause(
+    alloc: Global,
+    ground: &Ground<'_>,
+    handled: Access,
+    path: &str,
+    rights: Access,
+) -> Result<Option<String>, AllocError> {
+    let unhandled = beyond(rights, handled);
+    if unhandled.0 != 0 {
+        let text = unhandled.text(alloc)?;
+        return Ok(Some(format!(in alloc; "the layer doesn't handle {text}")?));
+    }
+    let Some(kind) = ground.kind_at(path) else {
+        return Ok(None);
+    };
+    let senseless = beyond(rights, Access::FILE);
+    if kind == Kind::Dir || senseless.0 == 0 {
+        return Ok(None);
+    }
+    let (text, kind) = (senseless.text(alloc)?, kind_text(kind));
+    Ok(Some(format!(in alloc; "{path} is {kind}, on which {text} means nothing")?))
+}
+
+fn kind_text(kind: Kind) -> &'static str {
+    match kind {
+        Kind::Sym => "a symbolic link, which isn't followed",
+        _ => "no directory",
+    }
+}
+
+// Returns which of the causes of its errno the last of these calls has, if it is one that has several.
+fn cause_of(
+    alloc: Global,
+    ground: &Ground<'_>,
+    calls: &[Call],
+    errno: Errno,
+) -> Result<Option<String>, AllocError> {
+    match (calls.last(), errno) {
+        (Some(Call::Allow(_, target, rights)), Errno::EINVAL) => {
+            rule_cause(alloc, ground, handled(calls), target.as_str(), *rights)
+        }
+        (Some(Call::Ruleset(rights)), Errno::EINVAL) => {
+            let level = ground.abi.number();
+            let text = beyond(*rights, Access::known(ground.abi)).text(alloc)?;
+            Ok(Some(format!(in alloc; "level {level} doesn't know {text}")?))
+        }
+        (Some(Call::Ruleset(_)), Errno::ENOMSG) => {
+            Ok(Some(String::from_str(alloc, "a layer has to handle a right")?))
+        }
+        (Some(Call::Allow(..)), Errno::ENOMSG) => {
+            Ok(Some(String::from_str(alloc, "a rule has to allow a right")?))
+        }
+        _ => Ok(None),
+    }
+}
+
+// Returns that text, and which of several causes the refusal has; for a full history the option that makes it longer.
+fn stop_text(
+    alloc: Global,
+    ground: &Ground<'_>,
+    comer: Comer<'_>,
+    stop: &Stop<'_>,
+) -> Result<String, AllocError> {
     let told = call_text(alloc, comer, stop)?;
     match stop.reply {
         Reply::Refused(Errno::NoMemory) => Err(AllocError),
         Reply::Refused(Errno::HistoryFull) => {
             format!(in alloc; "{told}--history tells how many entries there may be")
         }
+        Reply::Refused(errno) => match cause_of(alloc, ground, stop.calls, errno)? {
+            Some(cause) => format!(in alloc; "{told}{cause}"),
+            None => Ok(told),
+        },
         _ => Ok(told),
     }
 }
@@ -160,14 +264,18 @@ pub(crate) fn refused_text(
     };
     let mut tree = Plain::new(alloc, rules, given.nodes)?;
     let mut room = given.history;
-    let calls = policy.opening(alloc)?;
-    if let Some(stop) = come(&mut tree, &mut room, calls.as_slice()) {
-        return Ok(Some(stop_text(alloc, Comer::Loader, &stop)?));
+    let nodes = policy.opening(alloc)?;
+    let ground = Ground {
+        abi: policy.abi(),
+        nodes: nodes.as_slice(),
+    };
+    if let Some(stop) = come(&mut tree, &mut room, nodes.as_slice()) {
+        return Ok(Some(stop_text(alloc, &ground, Comer::Loader, &stop)?));
     }
     let profile = Comer::Profile(given.profile.unwrap_or(""));
     let calls = profile_calls(alloc, policy, given.profile)?;
     match come(&mut tree, &mut room, calls.as_slice()) {
-        Some(stop) => Ok(Some(stop_text(alloc, profile, &stop)?)),
+        Some(stop) => Ok(Some(stop_text(alloc, &ground, profile, &stop)?)),
         None => Ok(None),
     }
 }

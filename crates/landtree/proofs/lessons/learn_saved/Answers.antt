@@ -6,5 +6,5 @@ use Rattle.landtree.proofs.lessons.learn_saved.Goals as goal
 pub returns : goal.returns
 returns g c =
     let texts = g.S.Sources.texts c.args.sources.now in
-    by_history texts (learn_in c.args.options.now) c.args.history.now _ c.learn_from-ended.result
-    (c.keeping-file.ensures ∙ ap texts c.named.ensures) c.learn_from-ended.ensures
+    by_history texts (learn_in c.args.options.now) c.args.history.now _ _ _ c.learn_from-ended.result
+    (c.keeping-file.ensures.left ∙ ap texts c.named.ensures) c.learn_from-ended.ensures
