@@ -6,11 +6,12 @@
 
 from __future__ import annotations
 
+import json
 import os
 import re
 import subprocess
 from dataclasses import dataclass, field
-from typing import Iterable, List, Optional, Sequence, Tuple, Union
+from typing import Iterable, List, Optional, Sequence, Union
 
 from .errors import LandtreeError, ProgramFault, TimedOut
 from .exported import Exported, exported_of
@@ -20,8 +21,6 @@ File = Union[str, "os.PathLike[str]"]
 
 ASKED = re.compile(r"  +asked on (\S+) \((at|old|new)\): (\S+)")
 CHANGE = re.compile(r"  +no layer would deny it with layer (\d+)(?: and a rule on (\S+)| handling): (\S+)")
-SUM = re.compile(r"(\d+) passed, (\d+) failed")
-SHOWN = re.compile(r"(.*):(\d+): (.*)")
 VERDICT = re.compile(r"(legal|illegal at|bad line) (\d+)")
 LEAST = re.compile("# least\\b")
 
@@ -184,8 +183,8 @@ class Commands:
         """Runs files of checks under a profile, under no layer, or without a policy. No test that fails raises."""
         words = [f"--policy={os.fspath(policy)}"] if policy is not None else []
         words += [f"--profile={profile}"] if profile is not None else []
-        ended = self.ended("check", *words, "--", *(os.fspath(it) for it in files))
-        if ended.returncode not in (0, 3) or not SUM.search(ended.stdout):
+        ended = self.ended("check", "--as=json", *words, "--", *(os.fspath(it) for it in files))
+        if ended.returncode not in (0, 3) or not ended.stdout:
             raise fault_of(ended)
         return checked_of(ended.stdout, ended.stderr if ended.returncode else "")
 
@@ -231,8 +230,8 @@ class Commands:
         return ended.stdout
 
     def ended(self, command: str, *words: str) -> "subprocess.CompletedProcess[str]":
-        explain = ["--explain"] if self.is_explaining and command != "--version" else []
-        call = [os.fspath(self.program), command, *explain, *words]
+        hints = ["--explain" if self.is_explaining else "--terse"] if command != "--version" else []
+        call = [os.fspath(self.program), command, *hints, *words]
         try:
             return subprocess.run(
                 call,
@@ -262,33 +261,18 @@ def why_of(text: str) -> Why:
     return Why(call, answered, asked, changes, text)
 
 
-def checked_of(text: str, told: str) -> Checked:
-    """Returns what a check has written: three lines for each test that failed, and the sum."""
-    lines = text.splitlines()
-    passed, failed = numbers_of(lines[-1])
-    return Checked(passed, failed, failures_of(lines), told)
-
-
-def failures_of(lines: Sequence[str]) -> List[Failure]:
-    """Returns the tests that failed, by the three lines of each."""
-    failures = []
-    for place, wanted, got in zip(lines, lines[1:], lines[2:]):
-        shown = SHOWN.fullmatch(place)
-        if shown and wanted.startswith("expected ") and got.startswith("got "):
-            expected, reply = wanted[len("expected ") :], got[len("got ") :]
-            failures.append(Failure(shown[1], int(shown[2]), shown[3], expected, reply))
-    return failures
+def checked_of(report: str, told: str) -> Checked:
+    """Returns what a report says: an object for each test, and one with the sums."""
+    *tests, sums = [json.loads(line) for line in report.splitlines()]
+    failures = [
+        Failure(it["file"], it["line"], it["command"], it["expected"], it["got"]) for it in tests if not it["passes"]
+    ]
+    return Checked(sums["passed"], sums["failed"], failures, told)
 
 
 def unlearned_of(ended: "subprocess.CompletedProcess[str]") -> LandtreeError:
     """Returns the error for a profile that wasn't learned. The first test that failed is one line."""
     lines = ended.stderr.splitlines()
-    for it in failures_of(lines[:3]):
-        line = f"{it.file}:{it.line}: {it.command}: expected {it.expected}, got {it.got}"
-        return ProgramFault(ended.returncode, line, "\n".join(lines[3:]))
+    if len(lines) > 2 and lines[1].startswith("expected ") and lines[2].startswith("got "):
+        return ProgramFault(ended.returncode, f"{lines[0]}: {lines[1]}, {lines[2]}", "\n".join(lines[3:]))
     return fault_of(ended)
-
-
-def numbers_of(line: str) -> Tuple[int, int]:
-    found = SUM.fullmatch(line)
-    return (int(found[1]), int(found[2])) if found else (0, 0)

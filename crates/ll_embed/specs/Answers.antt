@@ -1,0 +1,202 @@
+-- What the exported functions answer. own
+use Rattle.std.specs.Prelude.{⊤, ◌≡◌, ◌⊎◌, ◌≤◌, ℕ, Bool, false, not, ◌==◌, List, [], ◌∷◌, Option, Some, None}
+use Rattle.std.specs.Prelude.{bytes_eq, option_map, slice_get, string_bytes, true, if◌then◌else◌}
+use Rattle.std.specs.declared.alloc.Global.{Global}
+use Rattle.std.specs.declared.string.String.{String}
+use Rattle.std.specs.Map.{lookup}
+use Rattle.std.specs.Str.{IsUtf8}
+use Rattle.toml.specs.Parse.{parse_document}
+use Rattle.ll_rights.specs.declared.limits.TheConstants.{HISTORY_ENTRIES, TREE_NODES}
+use Rattle.ll_seq.specs.declared.call.Call.{Call}
+use Rattle.ll_seq.specs.declared.reply.Entry.{Entry}
+use Rattle.ll_wire.specs.Pieces.{pieces}
+use Rattle.ll_wire.specs.declared.header.Header.{Header}
+use Rattle.ll_wire.specs.declared.header.Version.TheVariants.{Three}
+use Rattle.ll_audit.specs.Saved.{Judges, saved_text, verdict_line}
+use Rattle.ll_audit.specs.declared.verdict.Verdict.{Verdict}
+use Rattle.ll_audit.specs.declared.verdict.Verdict.TheVariants as verdict
+use Rattle.ll_why.specs.Entries.{IsHistoryWhy}
+use Rattle.ll_why.specs.declared.history.HistoryWhy.TheVariants as why
+use Rattle.ll_policy.specs.Faults.{document_faults}
+use Rattle.ll_policy.specs.Plan.{Plan, IsPlanOf}
+use Rattle.ll_policy.specs.declared.fault.PolicyFault.{PolicyFault}
+use Rattle.ll_policy.specs.declared.fault.PolicyFault.TheVariants.{NotToml}
+use Rattle.ll_session.specs.Run.{MayEnd}
+use Rattle.ll_session.specs.declared.fault.RunFault.{RunFault}
+use Rattle.ll_session.specs.declared.fault.RunFault.TheVariants as run
+use Rattle.ll_wire.specs.declared.fault.SessionFault.TheVariants as session
+use Rattle.ll_session.specs.declared.setup.Setup.{Setup}
+use Rattle.ll_session.specs.declared.stop.Stop.{Stop}
+use Rattle.ll_alone.specs.Alone.{IsTextRun}
+use Rattle.ll_embed.specs.declared.fault.Fault.{Fault}
+use Rattle.ll_embed.specs.declared.fault.Fault.TheVariants.{Misfit, NoEntry, NoMemory, NoProfile, Opening, Policy}
+use Rattle.ll_embed.specs.declared.fault.Fault.TheVariants.{TooLong}
+use Rattle.ll_embed.specs.declared.given.Given.{Given}
+
+-- ---- how a tree is set up
+
+-- the numbers and texts that set a tree up
+pub record Order : Type 0 where
+  pub level : ℕ
+  pub nodes : ℕ
+  pub history : ℕ
+  pub policy : List ℕ
+  pub profile : List ℕ
+
+abbrev pub order_in : Given → Order
+order_in g =
+    record { level = g.level; nodes = g.nodes; history = g.history; policy = g.policy.now; profile = g.profile.now }
+
+-- the level 0 stands for the newest one
+abbrev pub level_by : ℕ → ℕ
+level_by level = if level == 0 then 3 else level
+
+-- the calls of the profile; none without a name
+abbrev pub profile_of : (name : List ℕ) → Plan → Option (List Call)
+profile_of [] plan = Some []
+profile_of (b ∷ name) plan = lookup (bytes_eq (b ∷ name)) plan.profiles
+
+-- the setup without a policy
+pub record IsBare (o : Order) (setup : Setup) : Type 0 where
+  pub rules : setup.rules ≡ record { abi = level_by o.level; copies = true }
+  pub nodes_of : setup.nodes ≡ o.nodes
+  pub history_of : setup.history ≡ o.history
+  pub loader : setup.loader ≡ None
+  pub profile : setup.profile.items ≡ []
+
+-- the setup by a policy with this plan
+pub record IsByPlan (o : Order) (plan : Plan) (setup : Setup) : Type 0 where
+  pub rules : setup.rules ≡ record { abi = plan.abi; copies = true }
+  pub nodes_of : setup.nodes ≡ o.nodes
+  pub history_of : setup.history ≡ o.history
+  pub loader : option_map (λ calls. calls.items) setup.loader ≡ Some plan.opening
+  pub profile : Some setup.profile.items ≡ profile_of o.profile plan
+
+-- the setup by the policy's text, and without one if that is empty
+abbrev pub IsSetBy : (policy : List ℕ) → Order → Setup → Type 0
+IsSetBy [] o setup = IsBare o setup
+IsSetBy (b ∷ policy) o setup = (plan : Plan) × IsPlanOf (parse_document (b ∷ policy)) plan × IsByPlan o plan setup
+
+abbrev pub IsSetup : Order → Setup → Type 0
+IsSetup o setup = IsSetBy o.policy o setup
+
+-- a profile is given only with a policy, and a level only without
+abbrev pub GoTogether : (policy : List ℕ) → Order → Type 0
+GoTogether [] o = o.profile ≡ []
+GoTogether (b ∷ policy) o = o.level ≡ 0
+
+-- the numbers and texts may set a tree up
+pub record Fits (o : Order) : Type 0 where
+  pub level : o.level ≤ 3
+  pub some : 1 ≤ o.nodes
+  pub most : o.nodes ≤ TREE_NODES
+  pub some_entries : 1 ≤ o.history
+  pub most_entries : o.history ≤ HISTORY_ENTRIES
+  pub together : GoTogether o.policy o
+
+-- ---- why there is no answer
+
+-- the text's first fault as a policy
+abbrev pub IsFaultOf : (policy : List ℕ) → PolicyFault → Type 0
+IsFaultOf policy fault =
+    ((IsUtf8 policy → ⊥) × (fault ≡ NotToml))
+    ⊎ (IsUtf8 policy × (slice_get (document_faults (parse_document policy)) 0 ≡ Some fault))
+
+-- the policy doesn't have the profile
+abbrev pub HasNoProfile : Order → Type 0
+HasNoProfile o =
+    (IsUtf8 o.profile → ⊥)
+    ⊎ ((plan : Plan) × IsPlanOf (parse_document o.policy) plan × (profile_of o.profile plan ≡ None))
+
+abbrev pub status_of : Fault → ℕ
+status_of Misfit = 2
+status_of (Policy fault) = 2
+status_of NoProfile = 2
+status_of Opening = 2
+status_of NoEntry = 2
+status_of TooLong = 1
+status_of NoMemory = 4
+
+-- what a fault of a run is here. A text of memory can't be read or written only if memory runs out
+abbrev pub fault_in : RunFault → Fault
+fault_in run.Opening = Opening
+fault_in (run.Session session.TooLong) = TooLong
+fault_in (run.Session fault) = NoMemory
+
+-- why no tree is set up so, or nothing is run in it
+abbrev pub MayFail : Order → Fault → Type 0
+MayFail o Misfit = Fits o → ⊥
+MayFail o (Policy fault) = IsFaultOf o.policy fault
+MayFail o NoProfile = HasNoProfile o
+MayFail o Opening = (setup : Setup) × IsSetup o setup × MayEnd setup run.Opening
+MayFail o NoEntry = ⊥
+MayFail o TooLong = ⊤
+MayFail o NoMemory = ⊤
+
+-- ---- answers: a status and a text. A failure's text is for people
+
+-- a number that stands for a truth
+abbrev pub is_set : ℕ → Bool
+is_set n = not (n == 0)
+
+-- a run, stopped by a strict one's last reply or not
+abbrev pub stopped_status : Option Stop → ℕ
+stopped_status None = 0
+stopped_status (Some stop) = 3
+
+-- the script's transcript
+abbrev pub IsRunTold : Order → (strict : Bool) → (script : List ℕ) → (status : ℕ) → (text : List ℕ) → Type 0
+IsRunTold o strict script status text =
+    (setup : Setup) × (stop : Option Stop) × (entries : List Entry) × IsSetup o setup
+    × IsTextRun strict setup script text stop entries × (status ≡ stopped_status stop)
+
+abbrev pub RunAnswers : Order → (strict : Bool) → (script : List ℕ) → (status : ℕ) → (text : List ℕ) → Type 0
+RunAnswers o strict script status text =
+    IsRunTold o strict script status text ⊎ ((fault : Fault) × MayFail o fault × (status ≡ status_of fault))
+
+-- the saved history of a run of the script
+abbrev pub header_of : Setup → Header
+header_of setup = record { version = Three setup.rules.abi; nodes = setup.nodes }
+
+abbrev pub IsHistoryTold : Order → (script : List ℕ) → (status : ℕ) → (text : List ℕ) → Type 0
+IsHistoryTold o script status text =
+    (setup : Setup) × (replies : List ℕ) × (stop : Option Stop) × (entries : List Entry) × IsSetup o setup
+    × IsTextRun false setup script replies stop entries × (text ≡ saved_text (header_of setup) entries)
+    × (status ≡ 0)
+
+abbrev pub HistoryAnswers : Order → (script : List ℕ) → (status : ℕ) → (text : List ℕ) → Type 0
+HistoryAnswers o script status text =
+    IsHistoryTold o script status text ⊎ ((fault : Fault) × MayFail o fault × (status ≡ status_of fault))
+
+-- the verdict on a history
+abbrev pub verdict_status : Verdict → ℕ
+verdict_status (verdict.Legal entries) = 0
+verdict_status (verdict.Illegal entry) = 3
+verdict_status (verdict.BadLine line) = 3
+
+abbrev pub AuditAnswers : (history : List ℕ) → (status : ℕ) → (text : List ℕ) → Type 0
+AuditAnswers history status text =
+    ((verdict : Verdict) × Judges (pieces history) verdict × (text ≡ verdict_line verdict)
+    × (status ≡ verdict_status verdict))
+    ⊎ (status ≡ status_of NoMemory)
+
+-- why an entry of a history was answered so, or the history's first bad line
+abbrev pub IsEntryTold : (history : List ℕ) (number : ℕ) → (status : ℕ) → (text : List ℕ) → Type 0
+IsEntryTold history number status text =
+    ((told : String Global) × IsHistoryWhy (pieces history) number (why.Told told) × (text ≡ string_bytes told)
+    × (status ≡ 0))
+    ⊎ ((line : ℕ) × IsHistoryWhy (pieces history) number (why.BadLine line)
+    × (text ≡ verdict_line (verdict.BadLine line)) × (status ≡ 3))
+
+abbrev pub EntryAnswers : (history : List ℕ) (number : ℕ) → (status : ℕ) → (text : List ℕ) → Type 0
+EntryAnswers history number status text =
+    IsEntryTold history number status text
+    ⊎ (IsHistoryWhy (pieces history) number why.NoEntry × (status ≡ status_of NoEntry))
+    ⊎ (status ≡ status_of NoMemory)
+
+-- whether a policy is right
+abbrev pub PolicyAnswers : (policy : List ℕ) → (status : ℕ) → Type 0
+PolicyAnswers policy status =
+    ((plan : Plan) × IsPlanOf (parse_document policy) plan × (status ≡ 0))
+    ⊎ ((fault : PolicyFault) × IsFaultOf policy fault × (status ≡ status_of (Policy fault)))
+    ⊎ (status ≡ status_of NoMemory)
