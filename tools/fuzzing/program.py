@@ -63,10 +63,11 @@ class Program:
         self.path, self.room = path, room
 
     def ran(self, *words, text=""):
-        """Its status, standard output and standard error."""
+        """Its status, standard output and standard error, without hints unless they are asked for."""
+        hints = [] if "--explain" in words else ["--terse"]
         try:
             how = {"input": text.encode("latin-1"), "capture_output": True, "timeout": LONGEST}
-            ran = subprocess.run([self.path, *words], **how)
+            ran = subprocess.run([self.path, *words, *hints], **how)
         except subprocess.TimeoutExpired as error:
             raise Differs(f"{words[0]} hangs") from error
         return ran.returncode, ran.stdout.decode("latin-1"), ran.stderr.decode("latin-1")

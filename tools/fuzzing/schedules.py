@@ -208,6 +208,10 @@ class Follower:
             (self.calls(client, word, call, outcome) if call else self.goes_on(client, word, outcome))
 
 
+# What is said of a bad line.
+BLAMED = re.compile("  -:([0-9]+):[0-9]+: ")
+
+
 def judge_reasons(program, case, lines, outcomes):
     """Compares the outcomes, and what is said of steps that aren't enabled, with those of walks.py."""
     world, reasons = World(case.nodes, case.history, case.abi), []
@@ -220,7 +224,19 @@ def judge_reasons(program, case, lines, outcomes):
         same(outcome, wanted, f"line {number}, {line!r:.99}")
         reasons += [f"line {number}: {reason}"] if reason else []
     _, _, error = program.ran("schedule", "-", *case.words(), "--explain", text=case.text())
-    same(error.split("\n")[:-1], [f"  {cut(line)}" for line in [*reasons, *world.left()]], "the reasons")
+    hints = error.split("\n")[:-1]
+    judge_blamed(lines, outcomes, [int(it[1]) for it in map(BLAMED.match, hints) if it])
+    same([it for it in hints if not BLAMED.match(it)], [f"  {cut(it)}" for it in [*reasons, *world.left()]], "the reasons")
+
+
+def judge_blamed(lines, outcomes, blamed):
+    """The first 20 bad lines are blamed, but for some of clients that aren't there."""
+    bad = [number for number, outcome in enumerate(outcomes, 1) if outcome == BAD]
+    same(blamed, [it for it in bad if it in {*blamed}], "whether blamed lines are bad ones, in their order")
+    holds(len(blamed) <= 20, f"{len(blamed)} lines are blamed")
+    if len(blamed) < 20:
+        sure = [it for it in bad if it > len(lines) or not re.match("@[1-9]", lines[it - 1])]
+        same([it for it in sure if it in {*blamed}], sure, "whether bad lines are blamed")
 
 
 def judge(program, case):

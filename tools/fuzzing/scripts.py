@@ -39,6 +39,8 @@ def judge(program, case):
 
 def judge_checks(program, case, pairs):
     """Each third reply is made a false one, and fails; of the others each fourth is told by its first word."""
+    if not pairs:
+        return
     text = ""
     for number, (line, reply) in enumerate(pairs, 1):
         short = f"{reply.split(' ')[0]} .." if number % 4 == 0 else reply
