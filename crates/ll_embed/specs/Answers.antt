@@ -1,6 +1,6 @@
 -- What the exported functions answer. own
 use Rattle.std.specs.Prelude.{⊤, ◌≡◌, ◌⊎◌, ◌≤◌, ℕ, Bool, false, not, ◌==◌, List, [], ◌∷◌, Option, Some, None}
-use Rattle.std.specs.Prelude.{bytes_eq, option_map, slice_get, string_bytes, true, if◌then◌else◌}
+use Rattle.std.specs.Prelude.{bytes_eq, length, option_map, slice_get, string_bytes, true, if◌then◌else◌}
 use Rattle.std.specs.declared.alloc.Global.{Global}
 use Rattle.std.specs.declared.string.String.{String}
 use Rattle.std.specs.Map.{lookup}
@@ -10,6 +10,7 @@ use Rattle.ll_rights.specs.declared.limits.TheConstants.{HISTORY_ENTRIES, TREE_N
 use Rattle.ll_seq.specs.declared.call.Call.{Call}
 use Rattle.ll_seq.specs.declared.reply.Entry.{Entry}
 use Rattle.ll_wire.specs.Pieces.{pieces}
+use Rattle.ll_wire.specs.Transcript.{most_reads}
 use Rattle.ll_wire.specs.declared.header.Header.{Header}
 use Rattle.ll_wire.specs.declared.header.Version.TheVariants.{Three}
 use Rattle.ll_audit.specs.Saved.{Judges, saved_text, verdict_line}
@@ -27,7 +28,7 @@ use Rattle.ll_session.specs.declared.fault.RunFault.TheVariants as run
 use Rattle.ll_wire.specs.declared.fault.SessionFault.TheVariants as session
 use Rattle.ll_session.specs.declared.setup.Setup.{Setup}
 use Rattle.ll_session.specs.declared.stop.Stop.{Stop}
-use Rattle.ll_alone.specs.Alone.{IsTextRun}
+use Rattle.ll_embed.specs.Alone.{IsTextRun}
 use Rattle.ll_embed.specs.declared.fault.Fault.{Fault}
 use Rattle.ll_embed.specs.declared.fault.Fault.TheVariants.{Misfit, NoEntry, NoMemory, NoProfile, Opening, Policy}
 use Rattle.ll_embed.specs.declared.fault.Fault.TheVariants.{TooLong}
@@ -123,15 +124,20 @@ fault_in run.Opening = Opening
 fault_in (run.Session session.TooLong) = TooLong
 fault_in (run.Session fault) = NoMemory
 
--- why no tree is set up so, or nothing is run in it
+-- why no tree is set up so, or its policy's calls are refused
 abbrev pub MayFail : Order → Fault → Type 0
 MayFail o Misfit = Fits o → ⊥
 MayFail o (Policy fault) = IsFaultOf o.policy fault
 MayFail o NoProfile = HasNoProfile o
 MayFail o Opening = (setup : Setup) × IsSetup o setup × MayEnd setup run.Opening
 MayFail o NoEntry = ⊥
-MayFail o TooLong = ⊤
+MayFail o TooLong = ⊥
 MayFail o NoMemory = ⊤
+
+-- why nothing is run in it: one of these, or the script has a billion bytes
+abbrev pub RunFails : Order → (script : List ℕ) → Fault → Type 0
+RunFails o script TooLong = most_reads ≤ length script
+RunFails o script fault = MayFail o fault
 
 -- ---- answers: a status and a text. A failure's text is for people
 
@@ -152,7 +158,7 @@ IsRunTold o strict script status text =
 
 abbrev pub RunAnswers : Order → (strict : Bool) → (script : List ℕ) → (status : ℕ) → (text : List ℕ) → Type 0
 RunAnswers o strict script status text =
-    IsRunTold o strict script status text ⊎ ((fault : Fault) × MayFail o fault × (status ≡ status_of fault))
+    IsRunTold o strict script status text ⊎ ((fault : Fault) × RunFails o script fault × (status ≡ status_of fault))
 
 -- the saved history of a run of the script
 abbrev pub header_of : Setup → Header
@@ -166,7 +172,7 @@ IsHistoryTold o script status text =
 
 abbrev pub HistoryAnswers : Order → (script : List ℕ) → (status : ℕ) → (text : List ℕ) → Type 0
 HistoryAnswers o script status text =
-    IsHistoryTold o script status text ⊎ ((fault : Fault) × MayFail o fault × (status ≡ status_of fault))
+    IsHistoryTold o script status text ⊎ ((fault : Fault) × RunFails o script fault × (status ≡ status_of fault))
 
 -- the verdict on a history
 abbrev pub verdict_status : Verdict → ℕ

@@ -5,7 +5,12 @@ mod answer;
 mod fault;
 mod given;
 mod history;
+mod opening;
+mod own_tree;
+mod replies;
 mod run;
+mod strict;
+mod text_run;
 
 ghost use Rattle.std.specs.Prelude.{◌≡◌, ℕ, List, length};
 ghost use Rattle.ll_embed.specs.Answers.{AuditAnswers, EntryAnswers, HistoryAnswers, PolicyAnswers};

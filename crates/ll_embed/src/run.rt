@@ -1,7 +1,7 @@
 //! Runs of scripts.
 
-ghost use Rattle.std.specs.Prelude.{◌≡◌, ◌⊎◌, ◌≤◌, ℕ, All, IfErr, IfOk, List, Option, false};
-ghost use Rattle.ll_alone.specs.Alone.{IsTextRun};
+ghost use Rattle.std.specs.Prelude.{◌≡◌, ◌⊎◌, ◌≤◌, ℕ, All, IfErr, IfOk, List, Option, false, length};
+ghost use Rattle.ll_embed.specs.Alone.{IsTextRun};
 ghost use Rattle.ll_seq.specs.declared.reply.Entry.{Entry};
 ghost use Rattle.ll_session.specs.Run.{MayEnd};
 ghost use Rattle.ll_session.specs.declared.fault.RunFault.{RunFault};
@@ -10,14 +10,16 @@ ghost use Rattle.ll_session.specs.declared.stop.Stop.{Stop};
 ghost use Rattle.ll_audit.specs.Saved.{saved_text};
 ghost use Rattle.ll_rights.specs.declared.limits.TheConstants.{TREE_NODES};
 ghost use Rattle.ll_wire.specs.Entries.{IsEntry};
-ghost use Rattle.ll_embed.specs.Answers.{HistoryAnswers, IsSetup, MayFail, RunAnswers, fault_in, header_of};
+ghost use Rattle.ll_wire.specs.Transcript.{most_reads};
+ghost use Rattle.ll_wire.specs.declared.fault.SessionFault.{SessionFault};
+ghost use Rattle.ll_embed.specs.Answers.{HistoryAnswers, IsSetup, RunAnswers, RunFails, fault_in, header_of};
 ghost use Rattle.ll_embed.specs.Answers.{order_in, stopped_status};
 ghost use Rattle.ll_embed.specs.declared.fault.Fault.{Fault};
 
 use crate::answer::Answer;
 use crate::fault::{Fault, fault_of};
 use crate::given::Given;
-use ll_alone::{TextRun, run_alone};
+use crate::text_run::{TextRun, run_alone};
 use ll_audit::save;
 use ll_seq::Entry;
 use ll_session::{Setup, Stop};
@@ -38,7 +40,7 @@ fn run(alloc: Global, given: &Given<'_>, is_strict: bool, script: &[u8]) -> Resu
     ensures ran { IfOk result (λ ran. (setup : Setup) × IsSetup (order_in given.now) setup
         × IsTextRun is_strict setup script.now ran.text.items ran.run.stop ran.run.history.entries) }
     ensures entries { IfOk result (λ ran. All IsEntry ran.run.history.entries) }
-    ensures fault { IfErr result (MayFail (order_in given.now)) }
+    ensures fault { IfErr result (RunFails (order_in given.now) script.now) }
 {
     let setup = match given.setup(alloc) {
         Ok(setup) => setup,
@@ -96,7 +98,8 @@ fn history_of(alloc: Global, setup: Setup, script: &[u8]) -> Result<Vec<u8>, Fau
         × IsTextRun false setup script.now replies stop entries
         × (text.items ≡ saved_text (header_of setup) entries)) }
     ensures fault { IfErr result (λ fault. (fault ≡ Fault.NoMemory)
-        ⊎ ((of : RunFault) × MayEnd setup of × (fault ≡ fault_in of))) }
+        ⊎ ((of : RunFault) × MayEnd setup of
+        × (of ≡ RunFault.Session SessionFault.TooLong → most_reads ≤ length script.now) × (fault ≡ fault_in of))) }
 {
     let header = header_of(&setup);
     match run_alone(alloc, setup, false, script) {
