@@ -39,7 +39,7 @@ int main(int argc, char **argv) {
     uint8_t *out = malloc(capacity);
     uint32_t status;
     for (;;) {
-        status = landtree_run(0, 4096, 100000, 0, policy.bytes, policy.length, (const uint8_t *)profile, strlen(profile),
+        status = landtree_run(0, 4096, 0, 0, policy.bytes, policy.length, (const uint8_t *)profile, strlen(profile),
                               script.bytes, script.length, out, capacity, &length);
         if (status != LANDTREE_TOO_SHORT) break;
         capacity = length;

@@ -32,8 +32,8 @@ enum landtree_status {
 uint32_t landtree_version(void);
 
 /* Runs a script. The level is 1 to 3, or 0 for the newest; with a policy it is 0. `nodes` is 1 to 4096, `history` 1 to
-   1000000. An empty policy or profile isn't given; a profile is given only with a policy. The answer is a line for each
-   line of the script. A run with `strict` other than 0 ends at the first line that spells no command, or that isn't
+   1000000, or 0 for as much as the script may need. An empty policy or profile isn't given; a profile is given only with
+   a policy. The answer is a line for each line of the script. A run with `strict` other than 0 ends at the first line that spells no command, or that isn't
    made for want of room or memory, and at a refused layer. */
 uint32_t landtree_run(uint64_t level, size_t nodes, size_t history, uint32_t strict,
                       const uint8_t *policy, size_t policy_length,

@@ -62,7 +62,8 @@ export class Landtree {
     }
   }
 
-  #numbers({ level = 0, nodes = 4096, history = 10000 }) {
+  // The history's room of 0 is as much as the script may need.
+  #numbers({ level = 0, nodes = 4096, history = 0 }) {
     return [level, nodes, history].map(BigInt);
   }
 
@@ -111,8 +112,8 @@ function parse(words) {
     else if (NUMBERS[words[i]] && /^[0-9]{1,15}$/.test(words[i + 1])) options[NUMBERS[words[i]]] = Number(words[++i]);
     else return null;
   }
-  // The level 0 stands for none that is given.
-  return options.level === 0 ? null : { rest, options };
+  // A 0 stands for none that is given.
+  return options.level === 0 || options.history === 0 ? null : { rest, options };
 }
 
 // Runs the script in this file. If the opening is refused, that isn't read.

@@ -26,13 +26,17 @@ def encoded(text: Text) -> bytes:
 
 @dataclass(frozen=True)
 class Setup:
-    """What a tree is set up with. The level 0 is the newest one, and an empty policy or profile isn't given."""
+    """What a tree is set up with.
+
+    The level 0 is the newest one, a history of 0 has the room that the script may need, and an empty policy or profile
+    isn't given.
+    """
 
     policy: Text = b""
     profile: str = ""
     level: int = 0
     nodes: int = 4096
-    history: int = 100_000
+    history: int = 0
 
     def numbers(self) -> List[Any]:
         return [ctypes.c_uint64(self.level), ctypes.c_size_t(self.nodes), ctypes.c_size_t(self.history)]

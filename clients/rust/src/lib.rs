@@ -58,7 +58,8 @@ impl fmt::Display for Fault {
 
 impl std::error::Error for Fault {}
 
-/// What a tree is set up with. The level 0 is the newest one, and an empty policy or profile isn't given.
+/// What a tree is set up with. The level 0 is the newest one, a history of 0 has the room that the script may need, and
+/// an empty policy or profile isn't given.
 #[derive(Clone, Copy, Debug)]
 pub struct Setup<'a> {
     pub level: u64,
@@ -70,7 +71,7 @@ pub struct Setup<'a> {
 
 impl Default for Setup<'_> {
     fn default() -> Self {
-        Setup { level: 0, nodes: 4096, history: 100_000, policy: b"", profile: "" }
+        Setup { level: 0, nodes: 4096, history: 0, policy: b"", profile: "" }
     }
 }
 

@@ -1,6 +1,6 @@
 -- What the exported functions answer. own
 use Rattle.std.specs.Prelude.{⊤, ◌≡◌, ◌⊎◌, ◌≤◌, ℕ, Bool, false, not, ◌==◌, List, [], ◌∷◌, Option, Some, None}
-use Rattle.std.specs.Prelude.{bytes_eq, length, option_map, slice_get, string_bytes, true, if◌then◌else◌}
+use Rattle.std.specs.Prelude.{◌+◌, bytes_eq, length, min, option_map, slice_get, string_bytes, true, if◌then◌else◌}
 use Rattle.std.specs.declared.alloc.Global.{Global}
 use Rattle.std.specs.declared.string.String.{String}
 use Rattle.std.specs.Map.{lookup}
@@ -9,6 +9,7 @@ use Rattle.toml.specs.Parse.{parse_document}
 use Rattle.ll_rights.specs.declared.limits.TheConstants.{HISTORY_ENTRIES, TREE_NODES}
 use Rattle.ll_seq.specs.declared.call.Call.{Call}
 use Rattle.ll_seq.specs.declared.reply.Entry.{Entry}
+use Rattle.ll_wire.specs.Devices.{line_feeds}
 use Rattle.ll_wire.specs.Pieces.{pieces}
 use Rattle.ll_wire.specs.Transcript.{most_reads}
 use Rattle.ll_wire.specs.declared.header.Header.{Header}
@@ -36,21 +37,33 @@ use Rattle.ll_embed.specs.declared.given.Given.{Given}
 
 -- ---- how a tree is set up
 
--- the numbers and texts that set a tree up
+-- the numbers and texts that set a tree up, and the script that is run in it
 pub record Order : Type 0 where
   pub level : ℕ
   pub nodes : ℕ
   pub history : ℕ
   pub policy : List ℕ
   pub profile : List ℕ
+  pub script : List ℕ
 
 abbrev pub order_in : Given → Order
-order_in g =
-    record { level = g.level; nodes = g.nodes; history = g.history; policy = g.policy.now; profile = g.profile.now }
+order_in g = record {
+  level = g.level;
+  nodes = g.nodes;
+  history = g.history;
+  policy = g.policy.now;
+  profile = g.profile.now;
+  script = g.script.now;
+}
 
 -- the level 0 stands for the newest one
 abbrev pub level_by : ℕ → ℕ
 level_by level = if level == 0 then 3 else level
+
+-- room in the history. The limit 0 stands for enough: for these calls, each line of the script, and two connects
+abbrev pub limit_by : Order → (loader profile : ℕ) → ℕ
+limit_by o loader profile =
+    if o.history == 0 then min (loader + profile + line_feeds o.script + 3) HISTORY_ENTRIES else o.history
 
 -- the calls of the profile; none without a name
 abbrev pub profile_of : (name : List ℕ) → Plan → Option (List Call)
@@ -61,7 +74,7 @@ profile_of (b ∷ name) plan = lookup (bytes_eq (b ∷ name)) plan.profiles
 pub record IsBare (o : Order) (setup : Setup) : Type 0 where
   pub rules : setup.rules ≡ record { abi = level_by o.level; copies = true }
   pub nodes_of : setup.nodes ≡ o.nodes
-  pub history_of : setup.history ≡ o.history
+  pub history_of : setup.history ≡ limit_by o 0 0
   pub loader : setup.loader ≡ None
   pub profile : setup.profile.items ≡ []
 
@@ -69,7 +82,7 @@ pub record IsBare (o : Order) (setup : Setup) : Type 0 where
 pub record IsByPlan (o : Order) (plan : Plan) (setup : Setup) : Type 0 where
   pub rules : setup.rules ≡ record { abi = plan.abi; copies = true }
   pub nodes_of : setup.nodes ≡ o.nodes
-  pub history_of : setup.history ≡ o.history
+  pub history_of : setup.history ≡ limit_by o (length plan.opening) (length setup.profile.items)
   pub loader : option_map (λ calls. calls.items) setup.loader ≡ Some plan.opening
   pub profile : Some setup.profile.items ≡ profile_of o.profile plan
 
@@ -91,7 +104,6 @@ pub record Fits (o : Order) : Type 0 where
   pub level : o.level ≤ 3
   pub some : 1 ≤ o.nodes
   pub most : o.nodes ≤ TREE_NODES
-  pub some_entries : 1 ≤ o.history
   pub most_entries : o.history ≤ HISTORY_ENTRIES
   pub together : GoTogether o.policy o
 
@@ -124,20 +136,15 @@ fault_in run.Opening = Opening
 fault_in (run.Session session.TooLong) = TooLong
 fault_in (run.Session fault) = NoMemory
 
--- why no tree is set up so, or its policy's calls are refused
+-- why no tree is set up so, or nothing is run in it. A script is too long if it has a billion bytes
 abbrev pub MayFail : Order → Fault → Type 0
 MayFail o Misfit = Fits o → ⊥
 MayFail o (Policy fault) = IsFaultOf o.policy fault
 MayFail o NoProfile = HasNoProfile o
 MayFail o Opening = (setup : Setup) × IsSetup o setup × MayEnd setup run.Opening
 MayFail o NoEntry = ⊥
-MayFail o TooLong = ⊥
+MayFail o TooLong = most_reads ≤ length o.script
 MayFail o NoMemory = ⊤
-
--- why nothing is run in it: one of these, or the script has a billion bytes
-abbrev pub RunFails : Order → (script : List ℕ) → Fault → Type 0
-RunFails o script TooLong = most_reads ≤ length script
-RunFails o script fault = MayFail o fault
 
 -- ---- answers: a status and a text. A failure's text is for people
 
@@ -151,28 +158,28 @@ stopped_status None = 0
 stopped_status (Some stop) = 3
 
 -- the script's transcript
-abbrev pub IsRunTold : Order → (strict : Bool) → (script : List ℕ) → (status : ℕ) → (text : List ℕ) → Type 0
-IsRunTold o strict script status text =
+abbrev pub IsRunTold : Order → (strict : Bool) → (status : ℕ) → (text : List ℕ) → Type 0
+IsRunTold o strict status text =
     (setup : Setup) × (stop : Option Stop) × (entries : List Entry) × IsSetup o setup
-    × IsTextRun strict setup script text stop entries × (status ≡ stopped_status stop)
+    × IsTextRun strict setup o.script text stop entries × (status ≡ stopped_status stop)
 
-abbrev pub RunAnswers : Order → (strict : Bool) → (script : List ℕ) → (status : ℕ) → (text : List ℕ) → Type 0
-RunAnswers o strict script status text =
-    IsRunTold o strict script status text ⊎ ((fault : Fault) × RunFails o script fault × (status ≡ status_of fault))
+abbrev pub RunAnswers : Order → (strict : Bool) → (status : ℕ) → (text : List ℕ) → Type 0
+RunAnswers o strict status text =
+    IsRunTold o strict status text ⊎ ((fault : Fault) × MayFail o fault × (status ≡ status_of fault))
 
 -- the saved history of a run of the script
 abbrev pub header_of : Setup → Header
 header_of setup = record { version = Three setup.rules.abi; nodes = setup.nodes }
 
-abbrev pub IsHistoryTold : Order → (script : List ℕ) → (status : ℕ) → (text : List ℕ) → Type 0
-IsHistoryTold o script status text =
+abbrev pub IsHistoryTold : Order → (status : ℕ) → (text : List ℕ) → Type 0
+IsHistoryTold o status text =
     (setup : Setup) × (replies : List ℕ) × (stop : Option Stop) × (entries : List Entry) × IsSetup o setup
-    × IsTextRun false setup script replies stop entries × (text ≡ saved_text (header_of setup) entries)
+    × IsTextRun false setup o.script replies stop entries × (text ≡ saved_text (header_of setup) entries)
     × (status ≡ 0)
 
-abbrev pub HistoryAnswers : Order → (script : List ℕ) → (status : ℕ) → (text : List ℕ) → Type 0
-HistoryAnswers o script status text =
-    IsHistoryTold o script status text ⊎ ((fault : Fault) × RunFails o script fault × (status ≡ status_of fault))
+abbrev pub HistoryAnswers : Order → (status : ℕ) → (text : List ℕ) → Type 0
+HistoryAnswers o status text =
+    IsHistoryTold o status text ⊎ ((fault : Fault) × MayFail o fault × (status ≡ status_of fault))
 
 -- the verdict on a history
 abbrev pub verdict_status : Verdict → ℕ

@@ -1,4 +1,4 @@
-//! The numbers and texts that set a tree up.
+//! The numbers and texts that set a tree up, and the script that is run in it.
 
 ghost use Rattle.std.specs.Prelude.{◌≡◌, ◌⊎◌, ◌≤◌, [], None, Some, IfErr, IfOk, OnOk, true};
 ghost use Rattle.std.specs.Str.{IsUtf8};
@@ -6,7 +6,8 @@ ghost use Rattle.toml.specs.Parse.{parse_document};
 ghost use Rattle.ll_policy.specs.Plan.{IsPlanOf, Plan};
 ghost use Rattle.ll_rights.specs.declared.limits.TheConstants.{HISTORY_ENTRIES, TREE_NODES};
 ghost use Rattle.ll_session.specs.Session.{AreOthers};
-ghost use Rattle.ll_embed.specs.Answers.{IsBare, IsByPlan, IsFaultOf, IsSetup, MayFail, level_by};
+ghost use Rattle.ll_wire.specs.Devices.{line_feeds};
+ghost use Rattle.ll_embed.specs.Answers.{IsBare, IsByPlan, IsFaultOf, IsSetup, MayFail, level_by, limit_by};
 ghost use Rattle.ll_embed.specs.Answers.{PolicyAnswers, order_in, profile_of};
 ghost use Rattle.ll_policy.specs.declared.fault.PolicyFault.{PolicyFault};
 ghost use Rattle.ll_embed.specs.declared.fault.Fault.{Fault};
@@ -20,7 +21,8 @@ use ll_seq::{Call, Rules};
 use ll_session::Setup;
 use std::alloc::Global;
 
-/// The numbers and texts that set a tree up. The level 0 and empty texts aren't given.
+/// The numbers and texts that set a tree up, and the script that is run in it. The level 0, the limit 0 and empty texts
+/// aren't given.
 #[derive(Clone, Copy)]
 pub struct Given<'a> {
     pub level: u64,
@@ -28,6 +30,14 @@ pub struct Given<'a> {
     pub history: usize,
     pub policy: &'a [u8],
     pub profile: &'a [u8],
+    pub script: &'a [u8],
+}
+
+// Counts the line feeds of a text.
+fn count_feeds(text: &[u8]) -> usize
+    ensures { result ≡ line_feeds text.now }
+{
+    text.iter().filter(|byte| **byte == b'\n').count()
 }
 
 // Returns the policy that the text gives. Errors: the text's first fault; memory ran out.
@@ -82,6 +92,23 @@ impl Given<'_> {
         }
     }
 
+    // Returns the room in the history beside so many calls of the loader and the profile.
+    fn limit(&self, loader: usize, profile: usize) -> usize
+        requires most_entries { self.now.history ≤ HISTORY_ENTRIES }
+        ensures limit { result ≡ limit_by (order_in self.now) loader profile }
+        ensures some { 1 ≤ result }
+        ensures most { result ≤ HISTORY_ENTRIES }
+    {
+        if self.history > 0 {
+            return self.history;
+        }
+        loader
+            .saturating_add(profile)
+            .saturating_add(count_feeds(self.script))
+            .saturating_add(3)
+            .min(HISTORY_ENTRIES)
+    }
+
     // Returns the calls of the profile, or none without one.
     fn profile_calls(&self, alloc: Global, policy: &Policy) -> Result<Vec<Call>, Fault>
         ensures calls { IfOk result (λ calls. Some calls.items ≡ profile_of self.now.profile.now policy.now) }
@@ -106,7 +133,6 @@ impl Given<'_> {
     fn by_policy(&self, alloc: Global) -> Result<Setup, Fault>
         requires some { 1 ≤ self.now.nodes }
         requires most { self.now.nodes ≤ TREE_NODES }
-        requires some_entries { 1 ≤ self.now.history }
         requires most_entries { self.now.history ≤ HISTORY_ENTRIES }
         ensures setup { IfOk result (λ setup. (plan : Plan) × IsPlanOf (parse_document self.now.policy.now) plan
             × IsByPlan (order_in self.now) plan setup) }
@@ -129,7 +155,7 @@ impl Given<'_> {
                 copies: true,
             },
             nodes: self.nodes,
-            history: self.history,
+            history: self.limit(opening.len(), profile.len()),
             loader: Some(opening),
             profile,
         })
@@ -139,7 +165,6 @@ impl Given<'_> {
     fn bare(&self, alloc: Global, abi: Abi) -> Setup
         requires some { 1 ≤ self.now.nodes }
         requires most { self.now.nodes ≤ TREE_NODES }
-        requires some_entries { 1 ≤ self.now.history }
         requires most_entries { self.now.history ≤ HISTORY_ENTRIES }
         requires level { abi ≡ level_by self.now.level }
         ensures { IsBare (order_in self.now) result }
@@ -147,7 +172,7 @@ impl Given<'_> {
         Setup {
             rules: Rules { abi, copies: true },
             nodes: self.nodes,
-            history: self.history,
+            history: self.limit(0, 0),
             loader: None,
             profile: Vec::new(alloc),
         }
@@ -162,7 +187,7 @@ impl Given<'_> {
         if self.nodes < 1 || self.nodes > TREE_NODES {
             return Err(Fault::Misfit);
         }
-        if self.history < 1 || self.history > HISTORY_ENTRIES {
+        if self.history > HISTORY_ENTRIES {
             return Err(Fault::Misfit);
         }
         if self.policy.is_empty() {

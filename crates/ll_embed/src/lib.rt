@@ -30,7 +30,7 @@ pub extern "C" fn landtree_version() -> u32
 
 /// Runs a script in a new tree. Writes its transcript to `out`, if there is room for all of it. In any case `len` gets
 /// the length. With `strict` other than 0, the run ends at the first line that the program's `--strict` would end it
-/// at.
+/// at. With a `history` of 0 the history has room for all lines, if a million entries are enough.
 #[unsafe(no_mangle)]
 pub extern "C" fn landtree_run(
     alloc: Global,
@@ -50,7 +50,8 @@ pub extern "C" fn landtree_run(
       history = history;
       policy = policy.now;
       profile = profile.now;
-    }) (is_set strict) script.now) out.old out.new len.new result }
+      script = script.now;
+    }) (is_set strict)) out.old out.new len.new result }
 {
     let given = Given {
         level,
@@ -58,8 +59,9 @@ pub extern "C" fn landtree_run(
         history,
         policy,
         profile,
+        script,
     };
-    let answer = run::transcript(alloc, &given, strict != 0, script);
+    let answer = run::transcript(alloc, &given, strict != 0);
     answer.put(out, len)
 }
 
@@ -83,7 +85,8 @@ pub extern "C" fn landtree_history(
       history = history;
       policy = policy.now;
       profile = profile.now;
-    }) script.now) out.old out.new len.new result }
+      script = script.now;
+    })) out.old out.new len.new result }
 {
     let given = Given {
         level,
@@ -91,8 +94,9 @@ pub extern "C" fn landtree_history(
         history,
         policy,
         profile,
+        script,
     };
-    let answer = run::history(alloc, &given, script);
+    let answer = run::history(alloc, &given);
     answer.put(out, len)
 }
 

@@ -12,7 +12,7 @@ ghost use Rattle.ll_rights.specs.declared.limits.TheConstants.{TREE_NODES};
 ghost use Rattle.ll_wire.specs.Entries.{IsEntry};
 ghost use Rattle.ll_wire.specs.Transcript.{most_reads};
 ghost use Rattle.ll_wire.specs.declared.fault.SessionFault.{SessionFault};
-ghost use Rattle.ll_embed.specs.Answers.{HistoryAnswers, IsSetup, RunAnswers, RunFails, fault_in, header_of};
+ghost use Rattle.ll_embed.specs.Answers.{HistoryAnswers, IsSetup, MayFail, RunAnswers, fault_in, header_of};
 ghost use Rattle.ll_embed.specs.Answers.{order_in, stopped_status};
 ghost use Rattle.ll_embed.specs.declared.fault.Fault.{Fault};
 
@@ -36,27 +36,27 @@ fn status_of_stop(stop: &Option<Stop>) -> u32
 }
 
 // Runs the script in the tree that is asked for.
-fn run(alloc: Global, given: &Given<'_>, is_strict: bool, script: &[u8]) -> Result<TextRun, Fault>
+fn run(alloc: Global, given: &Given<'_>, is_strict: bool) -> Result<TextRun, Fault>
     ensures ran { IfOk result (λ ran. (setup : Setup) × IsSetup (order_in given.now) setup
-        × IsTextRun is_strict setup script.now ran.text.items ran.run.stop ran.run.history.entries) }
+        × IsTextRun is_strict setup given.now.script.now ran.text.items ran.run.stop ran.run.history.entries) }
     ensures entries { IfOk result (λ ran. All IsEntry ran.run.history.entries) }
-    ensures fault { IfErr result (RunFails (order_in given.now) script.now) }
+    ensures fault { IfErr result (MayFail (order_in given.now)) }
 {
     let setup = match given.setup(alloc) {
         Ok(setup) => setup,
         Err(fault) => return Err(fault),
     };
-    match run_alone(alloc, setup, is_strict, script) {
+    match run_alone(alloc, setup, is_strict, given.script) {
         Ok(ran) => Ok(ran),
         Err(fault) => Err(fault_of(fault)),
     }
 }
 
-/// Returns the script's transcript.
-pub fn transcript(alloc: Global, given: &Given<'_>, is_strict: bool, script: &[u8]) -> Answer
-    ensures { RunAnswers (order_in given.now) is_strict script.now result.status result.text.items }
+/// Returns the transcript of the script.
+pub fn transcript(alloc: Global, given: &Given<'_>, is_strict: bool) -> Answer
+    ensures { RunAnswers (order_in given.now) is_strict result.status result.text.items }
 {
-    match run(alloc, given, is_strict, script) {
+    match run(alloc, given, is_strict) {
         Ok(ran) => Answer {
             status: status_of_stop(&ran.run.stop),
             text: ran.text,
@@ -109,14 +109,14 @@ fn history_of(alloc: Global, setup: Setup, script: &[u8]) -> Result<Vec<u8>, Fau
 }
 
 /// Returns the saved history of a run of the script.
-pub fn history(alloc: Global, given: &Given<'_>, script: &[u8]) -> Answer
-    ensures { HistoryAnswers (order_in given.now) script.now result.status result.text.items }
+pub fn history(alloc: Global, given: &Given<'_>) -> Answer
+    ensures { HistoryAnswers (order_in given.now) result.status result.text.items }
 {
     let setup = match given.setup(alloc) {
         Ok(setup) => setup,
         Err(fault) => return Answer::of_fault(alloc, fault, given.policy),
     };
-    match history_of(alloc, setup, script) {
+    match history_of(alloc, setup, given.script) {
         Ok(text) => Answer { status: 0, text },
         Err(fault) => Answer::of_fault(alloc, fault, given.policy),
     }

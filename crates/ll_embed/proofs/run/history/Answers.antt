@@ -1,14 +1,7 @@
 use Rattle.std.proofs.Common.{inl, inr, refl}
-use Rattle.ll_embed.proofs.Runs.{history_fails, setup_fails}
+use Rattle.ll_embed.proofs.Runs.{history_fails}
 use Rattle.ll_embed.specs.Answers.{order_in}
 use Rattle.ll_embed.proofs.run.history.Goals as goal
-
-pub returns-in-Err : goal.returns-in-Err
-returns-in-Err c = inr (
-  c.in-Err.fault,
-  setup_fails (order_in c.args.given.now) c.args.script.now c.in-Err.fault c.in-Err.ensures.fault,
-  c.of_fault.ensures,
-)
 
 pub returns-in-Ok-history_of : goal.returns-in-Ok-history_of
 returns-in-Ok-history_of c =
@@ -19,7 +12,7 @@ pub returns-in-Err-history_of : goal.returns-in-Err-history_of
 returns-in-Err-history_of c =
     inr (
       c.in-Err-history_of.fault,
-      history_fails (order_in c.args.given.now) c.args.script.now c.in-Ok.setup c.in-Err-history_of.fault
-          c.in-Ok.ensures.setup c.in-Err-history_of.ensures.fault,
+      history_fails (order_in c.args.given.now) c.in-Ok.setup c.in-Err-history_of.fault c.in-Ok.ensures.setup
+          c.in-Err-history_of.ensures.fault,
       c.of_fault-in-Err-history_of.ensures,
     )
