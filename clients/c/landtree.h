@@ -61,7 +61,7 @@ uint32_t landtree_why_entry(size_t number,
                             const uint8_t *history, size_t history_length,
                             uint8_t *out, size_t capacity, size_t *length);
 
-/* What the library allocates by. heap.c has them over malloc; a program may bring its own. Of 0 bytes `align` bytes are
+/* What the archive allocates by. heap.c has them over malloc; a program that links it may bring its own. Of 0 bytes `align` bytes are
    asked for. If there is no memory, `is_there` is 0, and `bytes` is any pointer but null. */
 struct rattle_tried {
     uint64_t is_there;

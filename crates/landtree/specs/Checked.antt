@@ -28,7 +28,7 @@ check_of order =
       form = Some Text;
     }
 
--- if the checks pass, the same text of the policy is exported; otherwise it ends as the checks do
+-- if the checks pass, the same text of the policy is exported; if not, with 3
 abbrev pub EndsChecked : (texts : Option (List ℕ) → Option (List ℕ)) → ExportOrder → (out out' : Option (List ℕ))
     → Result Conclusion Failure → Type 0
 EndsChecked texts order out out' (Ok Done) =

@@ -91,9 +91,6 @@ abbrev pub IsSetBy : (policy : List ℕ) → Order → Setup → Type 0
 IsSetBy [] o setup = IsBare o setup
 IsSetBy (b ∷ policy) o setup = (plan : Plan) × IsPlanOf (parse_document (b ∷ policy)) plan × IsByPlan o plan setup
 
-abbrev pub IsSetup : Order → Setup → Type 0
-IsSetup o setup = IsSetBy o.policy o setup
-
 -- a profile is given only with a policy, and a level only without
 abbrev pub GoTogether : (policy : List ℕ) → Order → Type 0
 GoTogether [] o = o.profile ≡ []
@@ -106,6 +103,10 @@ pub record Fits (o : Order) : Type 0 where
   pub most : o.nodes ≤ TREE_NODES
   pub most_entries : o.history ≤ HISTORY_ENTRIES
   pub together : GoTogether o.policy o
+
+-- the numbers and texts may set a tree up, and set this one up
+abbrev pub IsSetup : Order → Setup → Type 0
+IsSetup o setup = Fits o × IsSetBy o.policy o setup
 
 -- ---- why there is no answer
 
@@ -139,7 +140,7 @@ fault_in (run.Session fault) = NoMemory
 -- why no tree is set up so, or nothing is run in it. A script is too long if it has a billion bytes
 abbrev pub MayFail : Order → Fault → Type 0
 MayFail o Misfit = Fits o → ⊥
-MayFail o (Policy fault) = IsFaultOf o.policy fault
+MayFail o (Policy fault) = (o.policy ≡ [] → ⊥) × IsFaultOf o.policy fault
 MayFail o NoProfile = HasNoProfile o
 MayFail o Opening = (setup : Setup) × IsSetup o setup × MayEnd setup run.Opening
 MayFail o NoEntry = ⊥
@@ -207,9 +208,9 @@ EntryAnswers history number status text =
     ⊎ (IsHistoryWhy (pieces history) number why.NoEntry × (status ≡ status_of NoEntry))
     ⊎ (status ≡ status_of NoMemory)
 
--- whether a policy is right
-abbrev pub PolicyAnswers : (policy : List ℕ) → (status : ℕ) → Type 0
-PolicyAnswers policy status =
-    ((plan : Plan) × IsPlanOf (parse_document policy) plan × (status ≡ 0))
+-- whether a policy is right: without a text if it is
+abbrev pub PolicyAnswers : (policy : List ℕ) → (status : ℕ) → (text : List ℕ) → Type 0
+PolicyAnswers policy status text =
+    ((plan : Plan) × IsPlanOf (parse_document policy) plan × (status ≡ 0) × (text ≡ []))
     ⊎ ((fault : PolicyFault) × IsFaultOf policy fault × (status ≡ status_of (Policy fault)))
     ⊎ (status ≡ status_of NoMemory)

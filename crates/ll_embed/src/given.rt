@@ -7,7 +7,7 @@ ghost use Rattle.ll_policy.specs.Plan.{IsPlanOf, Plan};
 ghost use Rattle.ll_rights.specs.declared.limits.TheConstants.{HISTORY_ENTRIES, TREE_NODES};
 ghost use Rattle.ll_session.specs.Session.{AreOthers};
 ghost use Rattle.ll_wire.specs.Devices.{line_feeds};
-ghost use Rattle.ll_embed.specs.Answers.{IsBare, IsByPlan, IsFaultOf, IsSetup, MayFail, level_by, limit_by};
+ghost use Rattle.ll_embed.specs.Answers.{Fits, IsBare, IsByPlan, IsFaultOf, IsSetBy, MayFail, level_by, limit_by};
 ghost use Rattle.ll_embed.specs.Answers.{PolicyAnswers, order_in, profile_of};
 ghost use Rattle.ll_policy.specs.declared.fault.PolicyFault.{PolicyFault};
 ghost use Rattle.ll_embed.specs.declared.fault.Fault.{Fault};
@@ -58,7 +58,7 @@ fn policy_of(alloc: Global, text: &[u8]) -> Result<Policy, Fault>
 
 /// Returns whether the text is a policy: the status 0 without a text, or its first fault.
 pub fn policy_answer(alloc: Global, text: &[u8]) -> Answer
-    ensures { PolicyAnswers text.now result.status }
+    ensures { PolicyAnswers text.now result.status result.text.items }
 {
     match policy_of(alloc, text) {
         Ok(policy) => {
@@ -76,6 +76,7 @@ impl Given<'_> {
     // Returns the level, without a policy. Errors: a number is out of its bounds, or a profile is given.
     fn level_alone(&self) -> Result<Abi, Fault>
         ensures level { IfOk result (λ abi. abi ≡ level_by self.now.level) }
+        ensures fits { OnOk result (self.now.level ≤ 3) }
         ensures profile { OnOk result (self.now.profile.now ≡ []) }
         ensures misfit { IfErr result (λ fault. (fault ≡ Fault.Misfit)
             × (self.now.profile.now ≡ [] → self.now.level ≤ 3 → ⊥)) }
@@ -131,6 +132,7 @@ impl Given<'_> {
 
     // Returns the setup by the policy.
     fn by_policy(&self, alloc: Global) -> Result<Setup, Fault>
+        requires given { self.now.policy.now ≡ [] → ⊥ }
         requires some { 1 ≤ self.now.nodes }
         requires most { self.now.nodes ≤ TREE_NODES }
         requires most_entries { self.now.history ≤ HISTORY_ENTRIES }
@@ -181,7 +183,8 @@ impl Given<'_> {
     /// Returns the setup of a tree. Errors: why there is none.
     pub fn setup(&self, alloc: Global) -> Result<Setup, Fault>
         ensures copies { IfOk result (λ setup. setup.rules.copies ≡ true) }
-        ensures setup { IfOk result (IsSetup (order_in self.now)) }
+        ensures fits { OnOk result (Fits (order_in self.now)) }
+        ensures setup { IfOk result (IsSetBy self.now.policy.now (order_in self.now)) }
         ensures fault { IfErr result (MayFail (order_in self.now)) }
     {
         if self.nodes < 1 || self.nodes > TREE_NODES {

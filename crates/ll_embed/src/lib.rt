@@ -12,10 +12,10 @@ mod run;
 mod strict;
 mod text_run;
 
-ghost use Rattle.std.specs.Prelude.{◌≡◌, ℕ, List, length};
+ghost use Rattle.std.specs.Prelude.{◌≡◌};
 ghost use Rattle.ll_embed.specs.Answers.{AuditAnswers, EntryAnswers, HistoryAnswers, PolicyAnswers};
 ghost use Rattle.ll_embed.specs.Answers.{RunAnswers, is_set};
-ghost use Rattle.ll_embed.specs.Buffer.{Comes, Gives};
+ghost use Rattle.ll_embed.specs.Buffer.{Gives};
 
 use crate::given::Given;
 use std::alloc::Global;
@@ -108,8 +108,7 @@ pub extern "C" fn landtree_policy(
     out: &mut [u8],
     len: &mut usize,
 ) -> u32
-    ensures { (words : List ℕ) × (status : ℕ) × PolicyAnswers policy.now status
-        × Comes status words out.old out.new result × (len.new ≡ length words) }
+    ensures { Gives (PolicyAnswers policy.now) out.old out.new len.new result }
 {
     let answer = given::policy_answer(alloc, policy);
     answer.put(out, len)
