@@ -27,5 +27,5 @@ pub use explanation::{Explanation, call_line, explain};
 pub use grants::{Grants, Ruled};
 pub use history::{HistoryWhy, explain_entry, why_entry, why_not};
 pub use reason::{LayerReason, Reason};
-pub use rights::{PathRights, rights_on};
+pub use rights::{PathRights, RightsAt, rights_at};
 pub use why::{Why, kept_number, why_of};
