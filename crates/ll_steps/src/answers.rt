@@ -2,18 +2,21 @@
 
 use crate::outcome::answer_text;
 use crate::schedule::Schedule;
+use crate::witness::Witness;
 use ll_wire::{Answers, Line};
 use std::alloc::AllocError;
 
-impl Answers for Schedule {
-    ghost use Rattle.std.specs.Prelude.{⊤, false};
+impl<W: Witness> Answers for Schedule<W> {
+    ghost use Rattle.std.specs.Prelude.{◌≡◌, ⊤, false, suc};
     ghost use Rattle.ll_steps.specs.Tells.{Tells};
 
-    ghost tells = { λ before piece line after. Tells before.world piece line after.world };
+    // The witness sees each line.
+    ghost tells = { λ before piece line after. Tells before.world piece line after.world
+        × (W.seen after.witness ≡ suc (W.seen before.witness)) };
 
-    ghost goes = { λ before after. ⊤ };
+    ghost goes = { λ before after. W.goes before.witness after.witness };
 
-    ghost used = { λ schedule. 0 };
+    ghost used = { λ schedule. W.seen schedule.witness };
 
     ghost over = { λ schedule. false };
 
@@ -31,7 +34,7 @@ impl Answers for Schedule {
         false
     }
 
-    ghost goes_nowhere = { λ a. tt };
+    ghost goes_nowhere = { λ a. W.goes_nowhere a.witness };
 
-    ghost goes_on = { λ a b c first then. tt };
+    ghost goes_on = { λ a b c first then. W.goes_on a.witness b.witness c.witness first then };
 }

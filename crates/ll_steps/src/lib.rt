@@ -14,6 +14,7 @@ mod slots;
 mod step;
 mod unmet;
 mod walk;
+mod witness;
 mod world;
 
 pub use outcome::answer_text;
@@ -21,4 +22,5 @@ pub use report::Report;
 pub use run::run_schedule;
 pub use setup::WorldSetup;
 pub use unmet::Unmet;
+pub use witness::Witness;
 pub use world::World;

@@ -1,28 +1,34 @@
 //! Runs schedules.
 
-ghost use Rattle.std.specs.Prelude.{◌≡◌, ◌≤◌, ◌^◌, ℕ, List, [], length, IfErr, IfSome, OnErr, OnOk, Option, Some, Err};
+ghost use Rattle.std.specs.Prelude.{◌≡◌, ◌≤◌, ◌+◌, ◌^◌, ℕ, List, [], length, IfErr, IfOk, IfSome, OnErr};
+ghost use Rattle.std.specs.Prelude.{OnOk, Option, Some, Err};
 ghost use Rattle.ll_wire.specs.declared.fault.SessionFault.{SessionFault};
 ghost use Rattle.ll_wire.specs.Devices.{IsWhole};
+ghost use Rattle.ll_wire.specs.Pieces.{pieces};
 ghost use Rattle.ll_wire.specs.Reached.{Blames};
 ghost use Rattle.ll_wire.specs.Transcript.{Writes, most_reads};
 ghost use Rattle.ll_steps.specs.Told.{IsBegun, IsTold};
 
 use crate::schedule::Schedule;
 use crate::setup::WorldSetup;
+use crate::witness::Witness;
 use ll_wire::{Ends, SessionFault, answer_lines};
 use std::alloc::Global;
 
 /// Reads a schedule to its end and does what each line asks for, in a tree of its own. Writes one line for each, and at
 /// the end the number of entries in the history. Writes the lines for everything read so far before each further read.
 /// Doesn't use a device again after it failed. Errors: the first fault; what was written is then a prefix of that text.
-pub fn run_schedule<E: Ends>(
+/// Returns the witness, which has seen each line.
+pub fn run_schedule<E: Ends, W: Witness>(
     alloc: Global,
     setup: WorldSetup,
     ends: &mut E,
-) -> Result<(), SessionFault>
+    witness: W,
+) -> Result<W, SessionFault>
     requires whole { IsWhole (E.devices ends.old) }
     requires answered { (E.devices ends.old).owed ≡ 0 }
     requires reads { (E.devices ends.old).reads ≤ 2 ^ 62 }
+    requires room { W.seen witness ≤ 2 ^ 62 }
     // On success, everything is read and everything is written.
     ensures transcript { OnOk result (IfSome (E.devices ends.old).remaining (λ input.
         ((E.devices ends.new).remaining ≡ Some [])
@@ -37,10 +43,17 @@ pub fn run_schedule<E: Ends>(
     ensures long { result ≡ Err SessionFault.TooLong
         → (input : List ℕ) → (E.devices ends.old).remaining ≡ Some input → most_reads ≤ length input }
     ensures same { E.names ends.new ≡ E.names ends.old }
+    // The witness has seen each piece.
+    ensures seen { IfOk result (λ after. IfSome (E.devices ends.old).remaining (λ input.
+        W.seen after ≡ W.seen witness + length (pieces input))) }
+    ensures goes { IfOk result (λ after. W.goes witness after) }
 {
-    let Ok(mut schedule) = Schedule::open(alloc, setup) else {
+    let Ok(mut schedule) = Schedule::open(alloc, setup, witness) else {
         return Err(SessionFault::NoMemory);
     };
     answer_lines(alloc, ends, &mut schedule)?;
-    schedule.finish(ends)
+    match schedule.finish(ends) {
+        Ok(()) => Ok(schedule.into_witness()),
+        Err(fault) => Err(fault),
+    }
 }

@@ -1,6 +1,6 @@
 //! A schedule under way.
 
-ghost use Rattle.std.specs.Prelude.{◌≡◌, ◌≢◌, ℕ, List, Err, IfErr, IfOk, OnErr, OnOk};
+ghost use Rattle.std.specs.Prelude.{◌≡◌, ◌≢◌, ◌<◌, ◌^◌, ℕ, suc, List, Err, IfErr, IfOk, OnErr, OnOk};
 ghost use Rattle.std.specs.Io.KnownBytes.{Appends};
 ghost use Rattle.ll_wire.specs.Cutting.{Holds};
 ghost use Rattle.ll_wire.specs.Devices.{IsWhole};
@@ -12,7 +12,7 @@ ghost use Rattle.ll_steps.specs.Tells.{Does, Tells, answer_line};
 ghost use Rattle.ll_steps.specs.Told.{last_line, opened};
 
 use crate::setup::WorldSetup;
-use crate::{Report, World};
+use crate::{Report, Witness, World};
 use ll_audit::Verdict;
 use ll_rights::Errno;
 use ll_wire::{Ends, Line, ScheduleLine, SessionFault, read_schedule_line, write_line};
@@ -28,37 +28,62 @@ fn done(world: &mut World, line: ScheduleLine) -> Report
     }
 }
 
-/// A tree with its walks, driven by lines.
+/// A tree with its walks, driven by lines, and who sees them made.
 #[derive(Drop)]
-pub struct Schedule {
+pub struct Schedule<W> {
     pub alloc: Global,
     pub world: World,
+    pub witness: W,
 }
 
-impl Schedule {
+impl<W: Witness> Schedule<W> {
     ghost use Rattle.ll_seq.specs.declared.reply.Reply.{Reply};
 
     /// Opens the tree, before the first line. Errors: memory ran out.
-    pub fn open(alloc: Global, setup: WorldSetup) -> Result<Schedule, AllocError>
-        ensures { IfOk result (λ schedule. schedule.world ≡ opened setup) }
+    pub fn open(alloc: Global, setup: WorldSetup, witness: W) -> Result<Schedule<W>, AllocError>
+        ensures world { IfOk result (λ schedule. schedule.world ≡ opened setup) }
+        ensures witness { IfOk result (λ schedule. schedule.witness ≡ witness) }
     {
         let world = World::new(alloc, setup.rules, setup.nodes, setup.history)?;
-        Ok(Schedule { alloc, world })
+        Ok(Schedule {
+            alloc,
+            world,
+            witness,
+        })
     }
 
-    /// Does what the line asks for. Returns its report. Errors: why the line wasn't read.
-    pub fn outcome(&mut self, line: &Line) -> Result<Report, Errno>
+    // Does what the line asks for, as `outcome` does. The witness sees it before.
+    fn made(&mut self, line: &Line) -> Result<Report, Errno>
         ensures tells { (piece : List ℕ) → Holds line.now piece
             → Tells self.old.world piece (answer_line self.new.world.history result) self.new.world }
         ensures spelled { IfErr result (λ errno. IsReply (Reply.Refused errno)) }
+        ensures seen { W.seen self.new.witness ≡ W.seen self.old.witness }
+        ensures goes { W.goes self.old.witness self.new.witness }
     {
         let Some(bytes) = line.bytes() else {
             return Err(Errno::BadLine);
         };
         match read_schedule_line(self.alloc, bytes, self.world.clients()) {
-            Ok(line) => Ok(done(&mut self.world, line)),
+            Ok(line) => {
+                self.witness.expect(&self.world, &line);
+                Ok(done(&mut self.world, line))
+            }
             Err(errno) => Err(errno),
         }
+    }
+
+    /// Does what the line asks for, and lets the witness see it. Returns its report. Errors: why the line wasn't read.
+    pub fn outcome(&mut self, line: &Line) -> Result<Report, Errno>
+        requires { W.seen self.old.witness < 2 ^ 63 }
+        ensures tells { (piece : List ℕ) → Holds line.now piece
+            → Tells self.old.world piece (answer_line self.new.world.history result) self.new.world }
+        ensures spelled { IfErr result (λ errno. IsReply (Reply.Refused errno)) }
+        ensures seen { W.seen self.new.witness ≡ suc (W.seen self.old.witness) }
+        ensures goes { W.goes self.old.witness self.new.witness }
+    {
+        let answer = self.made(line);
+        self.witness.see(&self.world, line, answer);
+        answer
     }
 
     /// Writes the last line: the number of entries in the history. Errors: the output failed, or memory ran out; a
@@ -80,5 +105,19 @@ impl Schedule {
             return Err(SessionFault::NoMemory);
         };
         write_line(ends, text.as_str())
+    }
+
+    /// Returns the witness, which has seen the tree after the last line.
+    pub fn into_witness(self) -> W
+        ensures seen { W.seen result ≡ W.seen self.witness }
+        ensures goes { W.goes self.witness result }
+    {
+        let Schedule {
+            world,
+            mut witness,
+            ..
+        } = self;
+        witness.leave(&world);
+        witness
     }
 }

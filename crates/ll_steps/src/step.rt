@@ -1,12 +1,10 @@
 //! Makes any step, and any list of them.
 
-ghost use Rattle.std.specs.Prelude.{◌≡◌, ◌≢◌, None, OnErr, IfOk, IsSome};
+ghost use Rattle.std.specs.Prelude.{◌≡◌, OnErr, IfOk};
 ghost use Rattle.ll_steps.specs.Headline.{IsHeadline, IsLawful};
 ghost use Rattle.ll_steps.specs.Makes.{Makes};
-ghost use Rattle.ll_steps.specs.Unmet.{IsWhyNot};
 
 use crate::report::Report;
-use crate::unmet::Unmet;
 use crate::world::World;
 use ll_laws::Step;
 use ll_seq::Call;
@@ -48,18 +46,6 @@ impl World {
         };
         self.by_law();
         outcome
-    }
-
-    /// Makes one step, as `step` does. Also returns why it wasn't enabled, if it wasn't.
-    pub fn attempt(&mut self, step: Step) -> (Report, Option<Unmet>)
-        ensures makes { Makes self.old step result.0 self.new }
-        ensures lawful { IsLawful self.new }
-        ensures why { IsWhyNot self.old step result.1 }
-        ensures not_now { result.0 ≡ Report.NotNow → IsSome result.1 }
-        ensures made { result.0 ≢ Report.NotNow → result.1 ≡ None }
-    {
-        let unmet = self.unmet(&step);
-        (self.step(step), unmet)
     }
 
     /// Makes all steps in order. Errors: memory for the reports ran out, and no step was made.
