@@ -8,6 +8,9 @@ use std::fmt;
 use std::fmt::Display;
 use std::num::nearest_usize_to_f64;
 
+/// What writing returns. It fails only if memory runs out.
+pub type Written = Result<(), AllocError>;
+
 /// The width of a character in pixels, in the usual writing and in the small one.
 pub const USUAL: f64 = 6.4;
 
@@ -102,8 +105,18 @@ impl Display for Point {
     }
 }
 
-/// The text of a picture, or of a part of one, as it grows. An element's class names its style. Functions that write
-/// fail only if memory runs out.
+/// A small sign.
+#[derive(Clone, Copy)]
+pub enum Sign {
+    /// A circle of this radius.
+    Dot(f64),
+    Diamond,
+    Cross,
+    /// A tip to the right, which says that a line goes on.
+    Tip,
+}
+
+/// The text of a picture, or of a part of one, as it grows. An element's class names its style.
 #[derive(Drop)]
 pub struct Canvas {
     text: String,
@@ -130,14 +143,14 @@ impl Canvas {
     }
 
     /// Appends elements.
-    pub fn add(&mut self, elements: &str) -> Result<(), AllocError>
+    pub fn add(&mut self, elements: &str) -> Written
         ensures { OnOk result (IsFrontOf (string_bytes self.old.text) (string_bytes self.new.text)) }
     {
         self.text.push_str(elements)
     }
 
     /// Begins a group in the colour of this row's client; grey without a row.
-    pub fn begin_group(&mut self, row: Option<usize>) -> Result<(), AllocError>
+    pub fn begin_group(&mut self, row: Option<usize>) -> Written
         ensures { OnOk result (IsFrontOf (string_bytes self.old.text) (string_bytes self.new.text)) }
     {
         match row {
@@ -150,29 +163,23 @@ impl Canvas {
     }
 
     /// Begins a group that shows this title when pointed at.
-    pub fn begin_title(&mut self, title: Cut<'_>) -> Result<(), AllocError> {
+    pub fn begin_title(&mut self, title: Cut<'_>) -> Written {
         writeln!(self.text, "<g><title>{title}</title>")
     }
 
-    pub fn end_group(&mut self) -> Result<(), AllocError>
+    pub fn end_group(&mut self) -> Written
         ensures { OnOk result (IsFrontOf (string_bytes self.old.text) (string_bytes self.new.text)) }
     {
         self.add("</g>\n")
     }
 
     /// Writes a row's colour as a style: its hue and its lightness.
-    pub fn tint(&mut self, row: usize, hue: usize, lightness: usize) -> Result<(), AllocError> {
+    pub fn tint(&mut self, row: usize, hue: usize, lightness: usize) -> Written {
         writeln!(self.text, ".tint{row}{{color:hsl({hue},70%,{lightness}%)}}")
     }
 
     /// Draws a box with this upper left corner.
-    pub fn rect(
-        &mut self,
-        class: &str,
-        corner: Point,
-        width: f64,
-        height: f64,
-    ) -> Result<(), AllocError> {
+    pub fn rect(&mut self, class: &str, corner: Point, width: f64, height: f64) -> Written {
         let Point { x, y } = corner;
         writeln!(
             self.text,
@@ -180,15 +187,7 @@ impl Canvas {
         )
     }
 
-    pub fn circle(&mut self, class: &str, middle: Point, radius: f64) -> Result<(), AllocError> {
-        let Point { x, y } = middle;
-        writeln!(
-            self.text,
-            "<circle class='{class}' cx='{x:.1}' cy='{y:.1}' r='{radius:.1}'/>"
-        )
-    }
-
-    pub fn line(&mut self, class: &str, from: Point, to: Point) -> Result<(), AllocError>
+    pub fn line(&mut self, class: &str, from: Point, to: Point) -> Written
         ensures { OnOk result (IsFrontOf (string_bytes self.old.text) (string_bytes self.new.text)) }
     {
         let path = format!(in *self.text.allocator();
@@ -197,43 +196,40 @@ impl Canvas {
         self.add(path.as_str())
     }
 
-    pub fn diamond(&mut self, class: &str, middle: Point, radius: f64) -> Result<(), AllocError> {
-        let top = middle.by(0.0, -radius);
-        let right = middle.by(radius, 0.0);
-        let bottom = middle.by(0.0, radius);
-        let left = middle.by(-radius, 0.0);
-        writeln!(
-            self.text,
-            "<path class='{class}' d='M{top} L{right} L{bottom} L{left} Z'/>"
-        )
-    }
-
-    pub fn cross(&mut self, class: &str, middle: Point, radius: f64) -> Result<(), AllocError> {
-        self.line(
-            class,
-            middle.by(-radius, -radius),
-            middle.by(radius, radius),
-        )?;
-        self.line(
-            class,
-            middle.by(-radius, radius),
-            middle.by(radius, -radius),
-        )
-    }
-
-    /// Draws a tip to the right, which says that a line goes on.
-    pub fn tip(&mut self, class: &str, point: Point) -> Result<(), AllocError> {
-        let from = point.by(2.0, -4.0);
-        let middle = point.by(6.0, 0.0);
-        let to = point.by(2.0, 4.0);
-        writeln!(
-            self.text,
-            "<path class='{class}' d='M{from} L{middle} L{to}'/>"
-        )
+    /// Draws a sign around this point.
+    pub fn sign(&mut self, class: &str, sign: Sign, at: Point) -> Written {
+        let Point { x, y } = at;
+        match sign {
+            Sign::Dot(radius) => {
+                writeln!(
+                    self.text,
+                    "<circle class='{class}' cx='{x:.1}' cy='{y:.1}' r='{radius:.1}'/>"
+                )
+            }
+            Sign::Diamond => {
+                let (top, bottom) = (at.by(0.0, -5.5), at.by(0.0, 5.5));
+                let (left, right) = (at.by(-5.5, 0.0), at.by(5.5, 0.0));
+                writeln!(
+                    self.text,
+                    "<path class='{class}' d='M{top} L{right} L{bottom} L{left} Z'/>"
+                )
+            }
+            Sign::Cross => {
+                self.line(class, at.by(-3.5, -3.5), at.by(3.5, 3.5))?;
+                self.line(class, at.by(-3.5, 3.5), at.by(3.5, -3.5))
+            }
+            Sign::Tip => {
+                let (from, middle, to) = (at.by(2.0, -4.0), at.by(6.0, 0.0), at.by(2.0, 4.0));
+                writeln!(
+                    self.text,
+                    "<path class='{class}' d='M{from} L{middle} L{to}'/>"
+                )
+            }
+        }
     }
 
     /// Writes words, beginning at the point.
-    pub fn write(&mut self, class: &str, from: Point, words: Cut<'_>) -> Result<(), AllocError> {
+    pub fn write(&mut self, class: &str, from: Point, words: Cut<'_>) -> Written {
         let Point { x, y } = from;
         writeln!(
             self.text,
@@ -250,7 +246,7 @@ impl Canvas {
         below: f64,
         words: &str,
         most: usize,
-    ) -> Result<(), AllocError>
+    ) -> Written
         ensures { OnOk result (IsFrontOf
             (string_bytes self.old.text ++ (codes "<text class='" ++ class.now ++ codes "' "))
             (string_bytes self.new.text)) }
@@ -268,7 +264,7 @@ impl Canvas {
     }
 
     /// Ends the picture.
-    pub fn close(&mut self) -> Result<(), AllocError>
+    pub fn close(&mut self) -> Written
         ensures front { OnOk result (IsFrontOf (string_bytes self.old.text) (string_bytes self.new.text)) }
         ensures ends { OnOk result (Ends (string_bytes self.new.text)) }
     {

@@ -1,9 +1,9 @@
 //! The directories on a walk's way, by their paths.
 
-use crate::{Branch, Spot};
+use crate::scene::{Branch, Spot};
 use ll_journal::{Position, Stand};
 use ll_path::{Path, Target};
-use ll_seq::{Call, Targets, targets_of};
+use ll_seq::{Targets, targets_of};
 use ll_steps::World;
 use std::alloc::{AllocError, Global};
 use std::fmt;
@@ -18,44 +18,31 @@ pub struct Front<'a> {
 
 impl Display for Front<'_> {
     fn fmt<W: fmt::Write>(&self, f: &mut fmt::Formatter<W>) -> fmt::Result {
-        let Some(path) = self.path else {
-            return f.write_str("/");
-        };
-        if self.depth == 0 || path.is_root() {
-            return f.write_str("/");
+        match self.path {
+            Some(path) if self.depth > 0 && !path.is_root() => {
+                for name in path.names().take(self.depth) {
+                    f.write_str("/")?;
+                    f.write_str(name)?;
+                }
+                Ok(())
+            }
+            _ => f.write_str("/"),
         }
-        for name in path.names().take(self.depth) {
-            f.write_str("/")?;
-            f.write_str(name)?;
-        }
-        Ok(())
     }
-}
-
-// Combines a name and a path, if memory sufficed for both.
-fn spot_of(
-    name: Result<String, AllocError>,
-    path: Result<String, AllocError>,
-) -> Result<Spot, AllocError> {
-    Ok(Spot {
-        name: name?,
-        path: path?,
-    })
 }
 
 impl<'a> Front<'a> {
+    pub const ROOT: Front<'static> = Front {
+        path: None,
+        depth: 0,
+    };
+
     // The last of the names.
     fn name(self) -> &'a str {
         match self.path {
-            Some(path) if self.depth > 0 => { path.names().nth(self.depth - 1).unwrap_or("/") }
+            Some(path) if self.depth > 0 => path.names().nth(self.depth - 1).unwrap_or("/"),
             _ => "/",
         }
-    }
-
-    /// Returns the directory of these names. Errors: memory ran out.
-    pub fn spot(self, alloc: Global) -> Result<Spot, AllocError> {
-        let name = String::from_str(alloc, self.name());
-        spot_of(name, format!(in alloc; "{self}"))
     }
 }
 
@@ -66,109 +53,126 @@ fn path_of(target: &Target) -> Option<&Path> {
     }
 }
 
+/// A directory that a walk marks: on which branch, its inode, its path, and how many bars below the client's line the
+/// mark is drawn, which is a step lower than that of the directory from which the walk came there.
+#[derive(Clone, Copy)]
+pub struct Leg<'a> {
+    pub branch: Branch,
+    pub inode: u64,
+    pub here: Front<'a>,
+    pub bar: usize,
+}
+
+impl Leg<'_> {
+    /// Returns the mark. Errors: memory ran out.
+    pub fn spot(self, alloc: Global) -> Result<Spot, AllocError> {
+        let here = self.here;
+        let name = String::from_str(alloc, here.name())?;
+        let path = format!(in alloc; "{here}")?;
+        let bar = self.bar;
+        Ok(Spot { name, path, bar })
+    }
+}
+
 /// The paths of a call whose walk is under way, and where the walk is.
 #[derive(Clone, Copy)]
 pub struct Way<'a> {
     first: Option<&'a Path>,
     second: Option<&'a Path>,
-    pub at: Position,
+    at: Position,
 }
 
 impl<'a> Way<'a> {
     /// Returns the client's walk, if one is under way.
     pub fn of(world: &'a World, client: u64) -> Option<Way<'a>> {
-        match (world.call(client), world.position(client)) {
-            (Some(call), Some(at)) => Some(Way::new(call, at)),
-            _ => None,
-        }
-    }
-
-    fn new(call: &'a Call, at: Position) -> Way<'a> {
+        let (Some(call), Some(at)) = (world.call(client), world.position(client)) else {
+            return None;
+        };
         let (first, second) = match targets_of(call) {
             Targets::No => (None, None),
             Targets::One(target) => (path_of(target), None),
             Targets::Two(old, new) => (path_of(old), path_of(new)),
         };
-        Way { first, second, at }
+        Some(Way { first, second, at })
     }
 
-    fn path_on(self, branch: Branch) -> Option<&'a Path> {
-        match branch {
+    // The first names of this branch's path.
+    fn front(self, branch: Branch, depth: usize) -> Front<'a> {
+        let path = match branch {
             Branch::Second => self.second,
             _ => self.first,
+        };
+        Front { path, depth }
+    }
+
+    // The leg of this branch, with its mark below so many others.
+    fn leg(self, branch: Branch, stand: Stand, others: usize) -> Leg<'a> {
+        Leg {
+            branch,
+            inode: stand.inode,
+            here: self.front(branch, stand.depth),
+            bar: stand.depth.saturating_add(others).saturating_add(1),
         }
     }
 
-    /// Returns where the leg of this branch is. Past the fork a leg begins at the fork.
-    pub fn stand(self, branch: Branch) -> Option<Stand> {
-        match (self.at, branch) {
-            (Position::Above, _) => None,
-            (Position::Down(trunk), _) => Some(trunk),
-            (Position::Split(trunk, _, _), Branch::Trunk) => Some(trunk),
-            (Position::Split(_, first, _), Branch::First) => Some(first),
-            (Position::Split(_, _, second), Branch::Second) => Some(second),
-        }
-    }
-
-    fn depth(self, branch: Branch) -> usize {
-        match self.stand(branch) {
-            Some(stand) => stand.depth,
-            None => 0,
-        }
-    }
-
-    /// Returns the directory of this branch's leg.
-    pub fn here(self, branch: Branch) -> Front<'a> {
-        Front {
-            path: self.path_on(branch),
-            depth: self.depth(branch),
+    /// Returns the directories that the walk marks, in the order in which it comes to them.
+    pub fn legs(self) -> [Option<Leg<'a>>; 3] {
+        match self.at {
+            Position::Above => [None; 3],
+            Position::Down(trunk) => [Some(self.leg(Branch::Trunk, trunk, 0)), None, None],
+            Position::Split(trunk, first, second) => {
+                let others = first.depth.saturating_sub(trunk.depth);
+                let leg = self.leg(Branch::Second, second, others);
+                [
+                    Some(self.leg(Branch::Trunk, trunk, 0)),
+                    Some(self.leg(Branch::First, first, 0)).filter(|_| others > 0),
+                    Some(leg).filter(|_| second.depth > trunk.depth),
+                ]
+            }
         }
     }
 
     /// Returns what the next name of this branch's leg names; above the root that is the root.
     pub fn next(self, branch: Branch) -> Front<'a> {
-        let depth = match self.stand(branch) {
-            Some(stand) => stand.depth.saturating_add(1),
-            None => 0,
+        let depth = match (self.at, branch) {
+            (Position::Above, _) => 0,
+            (Position::Split(_, _, leg), Branch::Second) => leg.depth.saturating_add(1),
+            (Position::Split(_, leg, _), _) => leg.depth.saturating_add(1),
+            (Position::Down(leg), _) => leg.depth.saturating_add(1),
         };
-        Front {
-            path: self.path_on(branch),
-            depth,
+        self.front(branch, depth)
+    }
+
+    /// Returns the path of the call that names this inode.
+    pub fn path_to(self, world: &World, inode: u64) -> Front<'a> {
+        if let (Position::Down(leg) | Position::Split(_, leg, _), Some(path)) = (
+            self.at, self.first,
+        )
+            && let Some((_, name)) = path.split_last()
+            && world.child(leg.inode, name) == Some(inode)
+        {
+            return self.front(Branch::First, usize::MAX);
         }
+        self.front(Branch::Second, usize::MAX)
     }
 
-    /// Returns the whole of the branch's path.
-    pub fn whole(self, branch: Branch) -> Front<'a> {
-        let path = self.path_on(branch);
-        let depth = match path {
-            Some(path) => path.len(),
-            None => 0,
-        };
-        Front { path, depth }
-    }
-
-    /// Returns the last name of the branch's path.
-    pub fn last_name(self, branch: Branch) -> Option<&'a str> {
-        let (_, name) = self.path_on(branch)?.split_last()?;
-        Some(name)
-    }
-
-    /// Reports whether the branch's leg has left the fork.
-    pub fn has_left(self, branch: Branch) -> bool {
-        self.depth(branch) > self.depth(Branch::Trunk)
+    /// Reports whether the walk has split at its fork.
+    pub fn is_split(self) -> bool {
+        matches!(self.at, Position::Split(..))
     }
 }
 
 /// The directories that a walk is in, one after the other.
 impl Display for Way<'_> {
     fn fmt<W: fmt::Write>(&self, f: &mut fmt::Formatter<W>) -> fmt::Result {
-        let trunk = self.here(Branch::Trunk);
-        write!(f, "{trunk}")?;
-        for branch in [Branch::First, Branch::Second] {
-            if self.has_left(branch) {
-                let place = self.here(branch);
-                write!(f, " and {place}")?;
-            }
+        for leg in self.legs().into_iter().flatten() {
+            let here = leg.here;
+            f.write_str(if leg.branch == Branch::Trunk {
+                ""
+            } else {
+                " and "
+            })?;
+            write!(f, "{here}")?;
         }
         Ok(())
     }

@@ -1,47 +1,57 @@
 //! The legend: what the signs of a picture mean.
 
-use crate::canvas::{Canvas, Cut, Point};
+use crate::canvas::{Canvas, Cut, Point, Sign, Written};
 use crate::sheet::MARGIN;
 use std::alloc::{AllocError, Global};
 
+// How a class of elements looks.
 #[derive(Clone, Copy)]
-enum Sign {
-    Made,
-    Walk,
-    Denied,
-    Above,
-    Mark,
-    Fork,
-    Moves,
-    Stale,
-    Restart,
-    NotNow,
-    Wait,
-    Gate,
-    GoesOn,
+enum Look {
+    Small(Sign),
+    // A dot and a diamond.
+    Both,
+    Line,
+    // A box with this name, which begins so far to the right.
+    Named(&'static str, f64),
 }
 
-// Each sign, the text that a picture with that sign contains, and its meaning.
-const SIGNS: [(Sign, &str, &str); 13] = [
-    (Sign::Made, "class='made'", "a call is made at once"),
-    (Sign::Walk, "class='point'", "a walk begins, or is answered"),
-    (Sign::Denied, "class='denied'", "refused or denied"),
-    (Sign::Above, "class='above'", "the walk is above the root"),
+// Each class of signs, how it looks, and its meaning.
+const SIGNS: [(&str, Look, &str); 13] = [
+    ("made", Look::Small(Sign::Diamond), "a call is made at once"),
     (
-        Sign::Mark,
-        "class='mark'",
+        "point",
+        Look::Small(Sign::Dot(4.5)),
+        "a walk begins, or is answered",
+    ),
+    ("denied", Look::Both, "refused or denied"),
+    ("above", Look::Line, "the walk is above the root"),
+    (
+        "mark",
+        Look::Named("dir", 8.0),
         "it stands in dir, which it marks",
     ),
-    (Sign::Fork, "class='fork'", "it leaves what its paths share"),
-    (Sign::Moves, "class='move'", "a move overtakes the walk"),
-    (Sign::Stale, "class='stale'", "so it can only start again"),
-    (Sign::Restart, "class='back'", "it starts again"),
-    (Sign::NotNow, "class='cross'", "not now: nothing happens"),
-    (Sign::Wait, "class='wait'", "what stands in the way of that"),
-    (Sign::Gate, "class='gate'", "it holds the move gate"),
     (
-        Sign::GoesOn,
-        "class='goes-on'",
+        "fork",
+        Look::Small(Sign::Dot(4.0)),
+        "it leaves what its paths share",
+    ),
+    ("move", Look::Line, "a move overtakes the walk"),
+    (
+        "stale",
+        Look::Named("stale", 3.0),
+        "so it can only start again",
+    ),
+    ("back", Look::Line, "it starts again"),
+    (
+        "cross",
+        Look::Small(Sign::Cross),
+        "not now: nothing happens",
+    ),
+    ("wait", Look::Line, "what stands in the way of that"),
+    ("gate", Look::Line, "it holds the move gate"),
+    (
+        "goes-on",
+        Look::Small(Sign::Tip),
         "the walk is still under way",
     ),
 ];
@@ -51,10 +61,10 @@ const WIDTH: f64 = 240.0;
 
 const HEIGHT: f64 = 22.0;
 
-/// The signs in a picture, each with its meaning and its place.
+/// The signs in a picture, as they look, each with its class, its meaning and its place.
 #[derive(Drop)]
 pub struct Legend {
-    signs: Vec<(Sign, &'static str, Point)>,
+    signs: Vec<(&'static str, Look, &'static str, Point)>,
     /// Where the legend ends.
     pub bottom: f64,
 }
@@ -69,31 +79,19 @@ fn next_place(place: Point, width: f64) -> Point {
     }
 }
 
-fn draw_sign(canvas: &mut Canvas, sign: Sign, at: Point) -> Result<(), AllocError> {
+fn draw_look(canvas: &mut Canvas, class: &str, look: Look, at: Point) -> Written {
     let middle = at.by(17.0, 0.0);
-    match sign {
-        Sign::Made => canvas.diamond("made", middle, 5.5),
-        Sign::Walk => canvas.circle("point", middle, 4.5),
-        Sign::Denied => {
-            canvas.diamond("denied", middle.by(-7.0, 0.0), 5.5)?;
-            canvas.circle("denied", middle.by(7.0, 0.0), 4.5)
+    match look {
+        Look::Small(sign) => canvas.sign(class, sign, middle),
+        Look::Both => {
+            canvas.sign(class, Sign::Diamond, middle.by(-7.0, 0.0))?;
+            canvas.sign(class, Sign::Dot(4.5), middle.by(7.0, 0.0))
         }
-        Sign::Above => canvas.line("above", at, at.by(34.0, 0.0)),
-        Sign::Mark => {
-            canvas.rect("mark", at.by(0.0, -8.0), 34.0, 16.0)?;
-            canvas.write("name", at.by(8.0, 3.5), Cut::whole("dir"))
+        Look::Line => canvas.line(class, at, at.by(34.0, 0.0)),
+        Look::Named(name, right) => {
+            canvas.rect(class, at.by(0.0, -8.0), 34.0, 16.0)?;
+            canvas.write("name", at.by(right, 3.5), Cut::whole(name))
         }
-        Sign::Fork => canvas.circle("fork", middle, 4.0),
-        Sign::Moves => canvas.line("move", at, at.by(34.0, 0.0)),
-        Sign::Stale => {
-            canvas.rect("stale", at.by(0.0, -8.0), 34.0, 16.0)?;
-            canvas.write("name", at.by(3.0, 3.5), Cut::whole("stale"))
-        }
-        Sign::Restart => canvas.line("back", at, at.by(34.0, 0.0)),
-        Sign::NotNow => canvas.cross("cross", middle, 3.5),
-        Sign::Wait => canvas.line("wait", at, at.by(34.0, 0.0)),
-        Sign::Gate => canvas.line("gate", at, at.by(34.0, 0.0)),
-        Sign::GoesOn => canvas.tip("goes-on", middle),
     }
 }
 
@@ -104,9 +102,10 @@ impl Legend {
         let mut signs = Vec::new(alloc);
         let mut place = Point::new(MARGIN, top);
         let mut bottom = top;
-        for (sign, class, meaning) in SIGNS {
-            if drawn.contains(class) {
-                signs.push((sign, meaning, place))?;
+        for (class, look, meaning) in SIGNS {
+            let sign = format!(in alloc; "class='{class}'")?;
+            if drawn.contains(sign.as_str()) {
+                signs.push((class, look, meaning, place))?;
                 bottom = place.y + HEIGHT;
                 place = next_place(place, width);
             }
@@ -114,10 +113,10 @@ impl Legend {
         Ok(Legend { signs, bottom })
     }
 
-    pub fn draw(&self, canvas: &mut Canvas) -> Result<(), AllocError> {
+    pub fn draw(&self, canvas: &mut Canvas) -> Written {
         canvas.begin_group(None)?;
-        for (sign, meaning, place) in self.signs.as_slice() {
-            draw_sign(canvas, *sign, *place)?;
+        for (class, look, meaning, place) in self.signs.as_slice() {
+            draw_look(canvas, class, *look, *place)?;
             canvas.write("note", place.by(42.0, 3.5), Cut::whole(meaning))?;
         }
         canvas.end_group()

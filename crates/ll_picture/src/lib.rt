@@ -2,22 +2,18 @@
 #![tactic(auto)]
 
 mod canvas;
-mod drawing;
+mod film;
 mod front;
 mod head;
 mod legend;
 mod picture;
 mod reason;
-mod replay;
 mod scene;
-mod seat;
 mod sheet;
+mod stage;
 mod style;
-mod told;
 mod track;
 mod window;
 
-pub use drawing::{draw, explain};
-pub use picture::picture_of;
-pub use scene::{Branch, Column, Ending, Event, Moment, Obstacle, Row, Scene, Spot, Wait};
+pub use film::Film;
 pub use window::Window;

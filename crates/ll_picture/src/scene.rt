@@ -8,11 +8,13 @@ pub enum Branch {
     Second,
 }
 
-/// A directory that a walk is in: its name (its inode's number if unknown) and its whole path.
+/// The mark on a directory: the directory's name and its whole path, and how many bars below its client's line the mark
+/// is drawn.
 #[derive(Drop)]
 pub struct Spot {
     pub name: String,
     pub path: String,
+    pub bar: usize,
 }
 
 /// How a call ends.
@@ -20,6 +22,16 @@ pub struct Spot {
 pub enum Ending {
     Done,
     Refused,
+}
+
+impl Ending {
+    /// Returns the class of a call's sign: this one, unless the call is refused or denied.
+    pub fn class(self, done: &'static str) -> &'static str {
+        match self {
+            Ending::Done => done,
+            Ending::Refused => "denied",
+        }
+    }
 }
 
 /// What another client has in a step's way: the mark drawn this many bars below its row's line, or without a bar the
@@ -52,8 +64,8 @@ pub enum Event {
     Overtaken(usize),
     /// Its walk has restarted, above the root.
     Restarted,
-    /// Its walk holds the move gate.
-    GateTaken,
+    /// Its walk holds the gate.
+    HasGate,
     /// Its walk ends.
     Answered(Ending),
     /// A call is made at once.
@@ -69,25 +81,28 @@ pub struct Moment {
     pub event: Event,
 }
 
-/// What happens to a client, in order, beginning with its connect or spawn.
+/// What happens to a client, in order. It begins with how the client came.
 #[derive(Drop)]
 pub struct Row {
     pub moments: Vec<Moment>,
 }
 
-/// A line of the schedule, its outcome, and the row of its client.
+/// The lines that are drawn side by side: the number of the first, from 0, and what happens in them, for each client.
+/// What has happened before shows only in what is left of it, and has the number of the line before.
+#[derive(Drop)]
+pub struct Band {
+    pub first: usize,
+    pub rows: Vec<Row>,
+}
+
+/// A line of the schedule, its outcome with the class of its writing, and the row of its client.
 #[derive(Drop)]
 pub struct Column {
     pub line: String,
     pub outcome: String,
+    pub class: &'static str,
     pub row: Option<usize>,
 }
 
-/// The contents of the picture: consecutive lines of the schedule as columns, and clients as rows. What happens before
-/// the first line (counted from 0) shows only in what is left of it; what happens after the last isn't shown.
-#[derive(Drop)]
-pub struct Scene {
-    pub first: usize,
-    pub columns: Vec<Column>,
-    pub rows: Vec<Row>,
-}
+/// How many lines a band has; the last may have fewer.
+pub const BAND: usize = 32;

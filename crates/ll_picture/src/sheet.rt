@@ -1,7 +1,7 @@
 //! The layout of a picture, in pixels.
 
-use crate::canvas::{USUAL, width_of};
-use crate::scene::{Column, Event, Row, Scene};
+use crate::canvas::{Point, USUAL, Written, width_of};
+use crate::scene::{BAND, Band, Column, Event, Row};
 use std::alloc::{AllocError, Global};
 use std::num::nearest_usize_to_f64;
 
@@ -21,50 +21,40 @@ const RUN: f64 = 0.58;
 const ABOVE: f64 = 30.0;
 
 const BELOW: f64 = 24.0;
+/// The least width of a picture.
+const NARROWEST: f64 = 560.0;
 
-/// Where the columns and rows begin and end.
+/// Where the columns and rows of a band begin and end.
 #[derive(Drop)]
 pub struct Sheet {
     pitch: f64,
-    // The first line that is drawn, from 0, and the one after the last.
+    // The first line of the band, from 0.
     first: usize,
-    end: usize,
     /// Where the head ends and the first row begins.
     pub top: f64,
     /// Where the last row ends.
     pub bottom: f64,
+    /// Where the writing ends.
     pub width: f64,
+    /// Where the last column ends.
+    pub end: f64,
     // The height of each row's client line, from the top; None for a row that isn't drawn.
     lines: Vec<Option<f64>>,
 }
 
-// How far down the bars of the row's walks reach in the lines that are drawn. None if the row's client does nothing
-// there but come, if at all, and has no walk under way.
-fn depth_of(row: &Row, first: usize, end: usize) -> Option<f64> {
-    let mut deepest = 0.0f64;
-    let mut depth = 0.0f64;
-    let mut walks = false;
-    let mut acts = false;
-    for moment in row.moments.iter().take_while(|moment| moment.line < end) {
-        match moment.event {
-            Event::Begun | Event::Restarted | Event::Answered(_) => depth = 0.0,
-            Event::Stands(_, _) => depth += STEP,
-            _ => {}
-        }
-        match moment.event {
-            Event::Begun => walks = true,
-            Event::Answered(_) => walks = false,
-            _ => {}
-        }
-        if moment.line < first {
-            deepest = depth;
-            acts = walks;
-        } else {
-            deepest = deepest.max(depth);
-            acts = acts || !matches!(moment.event, Event::Came);
-        }
+// How far down the bars of the row's walks reach. None if the row's client does nothing but come, and has no walk under
+// way.
+fn depth_of(row: &Row) -> Option<f64> {
+    let mut deepest = None;
+    for moment in row.moments.iter() {
+        let depth = match &moment.event {
+            Event::Came => continue,
+            Event::Stands(_, spot) => STEP * nearest_usize_to_f64(spot.bar),
+            _ => 0.0,
+        };
+        deepest = Some(deepest.unwrap_or(0.0f64).max(depth));
     }
-    if acts { Some(deepest) } else { None }
+    deepest
 }
 
 // The length of the writing at the head of a column.
@@ -75,57 +65,40 @@ fn writing_of(column: &Column) -> f64 {
     line.max(outcome).min(most)
 }
 
-// The height of each client's line, if the client does anything in the lines drawn, and where the last row ends.
-fn lines_from(
-    alloc: Global,
-    top: f64,
-    scene: &Scene,
-    end: usize,
-) -> Result<(Vec<Option<f64>>, f64), AllocError> {
-    let mut lines = Vec::new(alloc);
-    let mut bottom = top;
-    for row in scene.rows.iter() {
-        match depth_of(row, scene.first, end) {
-            Some(depth) => {
-                lines.push(Some(bottom + ABOVE))?;
-                bottom += ABOVE + depth + BELOW;
-            }
-            None => lines.push(None)?,
-        }
-    }
-    Ok((lines, bottom))
-}
-
 impl Sheet {
-    /// Returns a sheet with room for the scene. Errors: memory ran out.
-    pub fn new(alloc: Global, scene: &Scene) -> Result<Sheet, AllocError> {
-        let columns = scene.columns.len();
-        let end = scene.first.saturating_add(columns);
-        let pitch = (1000.0 / nearest_usize_to_f64(columns)).max(36.0).min(54.0);
+    // A sheet from this height on, for these columns.
+    fn of_columns(alloc: Global, from: f64, pitch: f64, first: usize, columns: &[Column]) -> Sheet {
+        let end = LEFT + pitch * nearest_usize_to_f64(columns.len());
         let mut height = 0.0f64;
-        let mut width = LEFT + pitch * nearest_usize_to_f64(columns);
-        for (index, column) in scene.columns.iter().enumerate() {
+        let mut width = end;
+        for (index, column) in columns.iter().enumerate() {
             let writing = writing_of(column);
             let begin = LEFT + pitch * nearest_usize_to_f64(index);
             height = height.max(writing * RISE);
             width = width.max(begin + pitch + writing * RUN);
         }
-        let top = MARGIN + height + MARGIN;
-        let (lines, bottom) = lines_from(alloc, top, scene, end)?;
-        Ok(Sheet {
+        let top = from + MARGIN + height + MARGIN;
+        Sheet {
             pitch,
-            first: scene.first,
-            end,
+            first,
             top,
-            bottom,
-            width: width.max(560.0) + MARGIN,
-            lines,
-        })
+            bottom: top,
+            width,
+            end,
+            lines: Vec::new(alloc),
+        }
     }
 
-    /// Returns the number of rows.
-    pub fn rows(&self) -> usize {
-        self.lines.len()
+    // Adds these rows.
+    fn add_rows(&mut self, rows: &[Row]) -> Written {
+        for row in rows {
+            let depth = depth_of(row);
+            self.lines.push(depth.map(|_| self.bottom + ABOVE))?;
+            if let Some(depth) = depth {
+                self.bottom += ABOVE + depth + BELOW;
+            }
+        }
+        Ok(())
     }
 
     /// Reports whether the line comes before those that are drawn.
@@ -133,29 +106,13 @@ impl Sheet {
         line < self.first
     }
 
-    /// Reports whether the line comes after those that are drawn.
-    pub fn is_behind(&self, line: usize) -> bool {
-        line >= self.end
-    }
-
-    /// Returns the middle of a column, from the left.
-    pub fn middle(&self, index: usize) -> f64 {
-        LEFT + self.pitch * (nearest_usize_to_f64(index) + 0.5)
-    }
-
     /// Returns the position of a line of the schedule, from the left. Lines before the first that is drawn are at the
     /// left edge.
     pub fn column(&self, line: usize) -> f64 {
         if self.is_before(line) {
-            LEFT
-        } else {
-            self.middle(line.saturating_sub(self.first))
+            return LEFT;
         }
-    }
-
-    /// Returns where the last column ends.
-    pub fn end(&self) -> f64 {
-        LEFT + self.pitch * nearest_usize_to_f64(self.end.saturating_sub(self.first))
+        LEFT + self.pitch * (nearest_usize_to_f64(line.saturating_sub(self.first)) + 0.5)
     }
 
     /// Reports whether the row is drawn.
@@ -168,6 +125,48 @@ impl Sheet {
         match self.lines.get(row) {
             Some(Some(line)) => *line,
             _ => self.top,
+        }
+    }
+}
+
+/// The sheets of all bands, one below the other, and the width of the picture.
+#[derive(Drop)]
+pub struct Page {
+    pub sheets: Vec<Sheet>,
+    pub width: f64,
+    pub bottom: f64,
+}
+
+impl Page {
+    /// Returns a page with room for these columns, and for what happens in them. Errors: memory ran out.
+    pub fn new(alloc: Global, columns: &[Column], bands: &[Band]) -> Result<Page, AllocError> {
+        let side = columns.len().min(BAND);
+        let pitch = (1000.0 / nearest_usize_to_f64(side)).max(36.0).min(54.0);
+        let mut page = Page {
+            sheets: Vec::new(alloc),
+            width: NARROWEST,
+            bottom: 0.0,
+        };
+        for (columns, band) in columns.chunks(BAND).zip(bands) {
+            let mut sheet = Sheet::of_columns(alloc, page.bottom, pitch, band.first, columns);
+            sheet.add_rows(band.rows.as_slice())?;
+            page.width = page.width.max(sheet.width);
+            page.bottom = sheet.bottom + MARGIN;
+            page.sheets.push(sheet)?;
+        }
+        page.width += MARGIN;
+        page.bottom = page.bottom.max(MARGIN);
+        Ok(page)
+    }
+
+    /// Returns the middle of this column, right below the head of its band and right below its rows.
+    pub fn ends_of(&self, index: usize) -> (Point, Point) {
+        match self.sheets.get(index / BAND) {
+            Some(sheet) => {
+                let x = sheet.column(sheet.first.saturating_add(index % BAND));
+                (Point::new(x, sheet.top), Point::new(x, sheet.bottom))
+            }
+            None => (Point::new(0.0, 0.0), Point::new(0.0, 0.0)),
         }
     }
 }

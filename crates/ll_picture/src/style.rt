@@ -1,7 +1,6 @@
 //! Colours and styles.
 
-use crate::canvas::Canvas;
-use std::alloc::AllocError;
+use crate::canvas::{Canvas, Written};
 
 /// The degrees of the hue circle that clients use. Signs use the others, from red to yellow.
 const HUES: usize = 270;
@@ -21,7 +20,7 @@ fn lightness_of(row: usize) -> (usize, usize) {
 }
 
 /// Writes the colours of the rows' clients, on white and in the dark. Errors: memory ran out.
-pub fn write_tints(canvas: &mut Canvas, rows: usize) -> Result<(), AllocError> {
+pub fn write_tints(canvas: &mut Canvas, rows: usize) -> Written {
     canvas.add("<style>\n")?;
     for row in 0..rows {
         canvas.tint(row, hue_of(row), lightness_of(row).0)?;

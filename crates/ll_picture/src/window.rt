@@ -11,6 +11,12 @@ pub struct Window {
 }
 
 impl Window {
+    /// No line.
+    pub const NONE: Window = Window {
+        from: 1,
+        to: Some(0),
+    };
+
     /// Reports whether the line of this number is drawn.
     pub fn has(self, number: u64) -> bool
         ensures { result ≡ has_line self number }
@@ -20,5 +26,13 @@ impl Window {
                 Some(to) => number <= to,
                 None => true,
             }
+    }
+
+    /// Reports whether each line after so many is behind those that are drawn.
+    pub fn is_past(self, lines: u64) -> bool {
+        match self.to {
+            Some(to) => to <= lines,
+            None => false,
+        }
     }
 }

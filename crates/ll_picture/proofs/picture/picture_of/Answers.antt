@@ -7,7 +7,7 @@ pub returns : goal.returns
 returns c =
     let behind = on _ _ _ c.in_ok-add-2.ensures c.in_ok-close.ensures.front in
     let head = c.in_ok-write_head.ensures in
-    subst (IsPicture (length c.args.scene.now.columns.items)) (sym c.into_text.ensures) (
+    subst (IsPicture (length c.args.columns.now)) (sym c.into_text.ensures) (
       on (codes "<svg ") _ _ c.in_ok-head.ensures (on _ _ _ c.in_ok-add.ensures (on _ _ _ head.front behind)),
       marks_on _ _ _ head.marks behind,
       c.in_ok-close.ensures.ends,
