@@ -1,5 +1,5 @@
 -- What is learned from parts at one cut.
-use Rattle.std.specs.Prelude.{◌≡◌, ◌<◌, ◌≤◌, ℕ, true, None, List, Contains, length, map, refl}
+use Rattle.std.specs.Prelude.{◌≡◌, ◌↔◌, ◌<◌, ◌≤◌, ℕ, true, None, IsTrue, List, Contains, length, map, refl}
 use Rattle.std.specs.List.{list_any}
 use Rattle.std.proofs.Common.{ap, inl, inr, sym, subst, ◌∙◌}
 use Rattle.std.proofs.lemmas.List.Elements.{All-contains, All-map}
@@ -20,15 +20,16 @@ use Rattle.ll_learn.specs.Bound.{BeginAt, Part, PassesEach, ReachesNoMore}
 use Rattle.ll_learn.specs.Charges.{AreNeedsOf, IsScopeAt}
 use Rattle.ll_learn.specs.Draft.{IsInScope, IsOf}
 use Rattle.ll_learn.specs.Framed.{IsFrame, IsUnprofiled, MeetsNeeds}
-use Rattle.ll_learn.specs.Learned.{AreCut, IsLearned, IsOpening, IsUnlearned, IsWithinAim, may_hold, part_behind}
-use Rattle.ll_learn.specs.Lesson.{IsLeastOf, IsOfProfile, gives}
+use Rattle.ll_learn.specs.Learned.{AreCut, IsCalled, IsLearned, IsOpening, IsUnlearned, IsWithinAim, may_hold}
+use Rattle.ll_learn.specs.Learned.{part_behind}
+use Rattle.ll_learn.specs.Lesson.{IsCalledLeast, IsOfDraft, IsOfProfile, gives}
 use Rattle.ll_learn.specs.Needs.{Meets}
 use Rattle.ll_learn.specs.Opening.{AreGathered}
 use Rattle.ll_learn.specs.Sites.{IsLayerOf, IsReached}
 use Rattle.ll_learn.proofs.DraftReach.{draft_is_least}
 use Rattle.ll_learn.proofs.MendedReach.{mended_is_least}
 use Rattle.ll_learn.proofs.SameReplies.{same_replies}
-use Rattle.ll_learn.proofs.ScopeLayers.{layer_in, scope_at}
+use Rattle.ll_learn.proofs.ScopeLayers.{layer_in, layer_spelt, scope_at}
 
 module _ (rules : Rules) (room : ℕ) (early : List Entry) (legal : IsLegal (start rules room) early)
     (hs : List (List Entry)) (aim : Aim) (frame : Frame)
@@ -64,6 +65,17 @@ module _ (rules : Rules) (room : ℕ) (early : List Entry) (legal : IsLegal (sta
       layer_in s reached framed.held frame.sites framed.sites frame.scope framed.may (framed.all reached) layer
       (subst (λ n. IsLayerOf s n framed.held layer) handled (within framed.held framed.is_held))
 
+  -- and the other way round
+  in_aim : (layer : Layer) → IsInScope frame.scope layer → IsWithinAim s aim layer
+  in_aim layer within held is_held =
+      let spelt = layer_spelt s reached framed.held frame.sites framed.sites frame.scope framed.may layer within in
+      record {
+        handles = spelt.handles ∙ ap (λ (a : Access). a.0) framed.handled;
+        rules = λ inode right known has.
+            let rule = spelt.rules inode right known has in
+            (rule.0, is_held right known ∙ sym (framed.is_held right known) ∙ rule.1, rule.2);
+      }
+
   none_passes : ((layer : Layer) → IsInScope frame.scope layer → Meets (grants_on layer) needs → ⊥)
       → (layer : Layer) → IsWithinAim s aim layer → PassesEach parts layer → ⊥
   none_passes none layer within passes = none layer (in_scope layer within) (meeting layer passes)
@@ -90,7 +102,7 @@ module _ (rules : Rules) (room : ℕ) (early : List Entry) (legal : IsLegal (sta
       legal = legal;
       leads = at part there;
       learnable = gathered.of.learnable part there;
-      theirs = gathered.of.theirs alone part there;
+      theirs = gathered.of.theirs.0 alone part there;
     };
     entries = λ part there. ap (λ (t : State). t.entries) (at part there);
     nodes = λ part there. ap (λ (t : State). t.nodes) (at part there);
@@ -107,10 +119,26 @@ module _ (rules : Rules) (room : ℕ) (early : List Entry) (legal : IsLegal (sta
         sym (framed.is_held right known)
         ∙ ((framed.may inode right known).0 (is.held inode right known given)).0
 
+    is_called : IsTrue profile.is_least ↔ IsCalledLeast s frame.scope needs is.drafted.draft
+    is_called = is.drafted.called s framed.chains (framed.known reached)
+
+    called : IsCalled s parts aim profile
+    called = record {
+      needs = needs;
+      scope = frame.scope;
+      draft = is.drafted.draft;
+      of = gathered.of;
+      within = λ layer. (in_aim layer, in_scope layer);
+      beneath = framed.beneath;
+      rules = is.drafted.rules;
+      called = is_called;
+    }
+
     least : profile.is_least ≡ true → (ours : Layer) → IsOfProfile profile ours
         → (layer : Layer) → IsWithinAim s aim layer → PassesEach parts layer → ReachesNoMore s ours layer
     least told ours of layer within passes =
-        let by : IsLeastOf frame.chains frame.scope needs profile = is.least told in
+        let by : IsOfDraft frame.chains frame.scope needs profile = is.drafted in
+        let why : IsCalledLeast s frame.scope needs by.draft = is_called.0 told in
         let draft : Draft = record { handled = profile.handled; rules = by.draft.rules } in
         let drafted : IsOf draft ours = record {
           handled = of.handled;
@@ -120,13 +148,13 @@ module _ (rules : Rules) (room : ℕ) (early : List Entry) (legal : IsLegal (sta
         record { met = λ l allows. (gathered.of.met l).1 allows; paths = gathered.of.paths } in
         let at_cut : IsScopeAt s frame.scope =
         scope_at s reached framed.held frame.sites framed.sites frame.scope framed.may in
-        elim by.why [
+        elim why.1 [
           | inl charged ↦
-              draft_is_least s parts (begins by.alone) needs are frame.scope at_cut draft charged ours drafted
+              draft_is_least s parts (begins why.0) needs are frame.scope at_cut draft charged ours drafted
               (is.within ours of) layer (in_scope layer within) passes
-          | inr unmoved ↦
-              mended_is_least s parts (begins by.alone) needs are gathered.of.moves frame.scope at_cut unmoved.0
-              (unmoved.1 s framed.chains) draft by.derived ours drafted (is.within ours of) layer
+          | inr still ↦
+              mended_is_least s parts (begins why.0) needs are gathered.of.moves frame.scope at_cut still.0
+              still.1 draft by.derived ours drafted (is.within ours of) layer
               (in_scope layer within) passes
         ]
 
@@ -145,5 +173,6 @@ module _ (rules : Rules) (room : ℕ) (early : List Entry) (legal : IsLegal (sta
         needed = λ layer of inode right known has less without passes.
             is.needed layer of inode right known has less without (meeting less passes);
         least = least;
+        called = called;
       };
     }

@@ -14,6 +14,7 @@ pub mod SpeltPaths
 pub mod ListedNames
 pub mod AllSites
 pub mod ScopeLayers
+pub mod Chains
 pub mod Columns
 pub mod Places
 pub mod Spreads
@@ -32,4 +33,5 @@ pub mod OutsideMoves
 pub mod Cuts
 pub mod ManyParts
 pub mod Framing
+pub mod Undeniable
 pub mod Unlearning

@@ -20,15 +20,16 @@ use Rattle.ll_learn.specs.Bound.{AllowsEach, MovesAreTheirs, Part, WereThere}
 use Rattle.ll_learn.specs.Charges.{WereInOne}
 use Rattle.ll_learn.specs.Learned.{BeginsSo, part_behind}
 use Rattle.ll_learn.specs.Needs.{AreRooted, Meets}
-use Rattle.ll_learn.specs.Opening.{AreGathered, AreNeedsOfAll, Gathers}
+use Rattle.ll_learn.specs.Gathered.{AreNeedsOfAll}
+use Rattle.ll_learn.specs.Opening.{AreGathered, Gathers}
 use Rattle.ll_learn.specs.Outside.{first_outside}
 use Rattle.ll_learn.specs.Passing.{AllowsRun, IsLearnable, is_client}
-use Rattle.ll_learn.proofs.OutsideMoves.{moves_are_theirs}
+use Rattle.ll_learn.proofs.OutsideMoves.{both_are, moves_are_theirs, none_is_outside}
 
 -- no part needs anything
 pub of_none : (needs : Needs) → ((layer : Layer) → Meets (grants_on layer) needs) → AreRooted needs
-    → needs.asks.items ≡ [] → needs.moves.items ≡ [] → AreNeedsOfAll [] needs
-of_none needs meets rooted none unmoved = record {
+    → needs.asks.items ≡ [] → needs.moves.items ≡ [] → needs.outside ≡ None → AreNeedsOfAll [] needs
+of_none needs meets rooted none unmoved alone = record {
   learnable = λ part there. absurd (nowhere part there);
   met = λ layer. (λ m part there. absurd (nowhere part there), λ all. meets layer);
   rooted = rooted;
@@ -36,7 +37,7 @@ of_none needs meets rooted none unmoved = record {
       (λ k d within. absurd (omega (arith, within)));
   moves = subst (All (λ (m : Moved). WereInOne [] m.from.items)) (sym unmoved)
       (λ k d within. absurd (omega (arith, within)));
-  theirs = λ alone part there. absurd (nowhere part there);
+  theirs = (λ _ part there. absurd (nowhere part there), λ _. alone);
 }
   where
     nowhere : (part : Part) → Contains [] part → ⊥
@@ -46,13 +47,18 @@ both_none : (o p : Option Origin) → option_or o p ≡ None → (o ≡ None) ×
 both_none None p e = (refl, e)
 both_none (Some x) p e = absurd (cc e)
 
--- where nothing is moved outside after these entries too, nothing is in front of them
+-- nothing is moved outside exactly if nothing was before, and nothing is by these entries
 pub none_outside : (client history : ℕ) (es : List Entry) (old new : Needs)
     → new.outside ≡ option_or old.outside (first_outside (is_client client) history 1 es)
-    → new.outside ≡ None → (old.outside ≡ None) × MovesAreTheirs (is_client client) es
-none_outside client history es old new is none =
-    let w = both_none old.outside (first_outside (is_client client) history 1 es) (sym is ∙ none) in
-    (w.0, moves_are_theirs (is_client client) history 1 es w.1)
+    → (new.outside ≡ None) ↔ ((old.outside ≡ None) × MovesAreTheirs (is_client client) es)
+none_outside client history es old new is = (
+  λ none.
+      let w = both_none old.outside (first_outside (is_client client) history 1 es) (sym is ∙ none) in
+      (w.0, moves_are_theirs (is_client client) history 1 es w.1),
+  λ both.
+      is ∙ both_are old.outside (first_outside (is_client client) history 1 es) both.0
+      (none_is_outside (is_client client) history 1 es both.1),
+)
 
 module _ (parts : List Part) (part : Part) (old new : Needs) (were : AreNeedsOfAll parts old)
     (more : Gathers part.cut part.client part.entries old new) where
@@ -106,9 +112,15 @@ module _ (parts : List Part) (part : Part) (old new : Needs) (were : AreNeedsOfA
     rooted = more.rooted were.rooted;
     paths = λ k d within. paths (get_or new.asks.items k d) (Contains-get_or new.asks.items k d within);
     moves = λ k d within. moves (get_or new.moves.items k d) (Contains-get_or new.moves.items k d within);
-    theirs = λ none.
-        let w = more.outside none in
-        each (λ p. MovesAreTheirs (is_client p.client) p.entries) (were.theirs w.0) w.1;
+    theirs = (
+      λ none.
+          let w = more.outside.0 none in
+          each (λ p. MovesAreTheirs (is_client p.client) p.entries) (were.theirs.0 w.0) w.1,
+      λ all. more.outside.1 (
+        were.theirs.1 (λ p there. all p (Contains-append_left parts (part ∷ []) p there)),
+        all part here,
+      ),
+    );
   }
 
 -- one history more
@@ -140,15 +152,16 @@ module _ (s : State) (early : List Entry) (client : ℕ) (hs : List (Bor (List E
   lent h = h.now
 
   pub gathered_none : (needs : Needs) → ((layer : Layer) → Meets (grants_on layer) needs) → AreRooted needs
-      → needs.asks.items ≡ [] → needs.moves.items ≡ [] → AreGathered s early client (map lent (take 0 hs)) needs
-  gathered_none needs meets rooted none unmoved =
+      → needs.asks.items ≡ [] → needs.moves.items ≡ [] → needs.outside ≡ None
+      → AreGathered s early client (map lent (take 0 hs)) needs
+  gathered_none needs meets rooted none unmoved alone =
       subst (λ (l : List (Bor (List Entry))). AreGathered s early client (map lent l) needs) (sym (nothing hs))
       of_nothing
     where
       of_nothing : AreGathered s early client [] needs
       of_nothing = record {
         begin = λ k d within. absurd (omega (arith, within));
-        of = of_none needs meets rooted none unmoved;
+        of = of_none needs meets rooted none unmoved alone;
       }
 
       nothing : (l : List (Bor (List Entry))) → take 0 l ≡ []

@@ -1,10 +1,11 @@
 -- Where rules may be put at a cut, and the profiles with such rules. Cited by contracts between functions of the crate.
 -- own
-use Rattle.std.specs.Prelude.{⊤, ◌≡◌, ◌<◌, ℕ, true}
+use Rattle.std.specs.Prelude.{⊤, ◌≡◌, ◌<◌, ℕ, true, Some, map}
 use Rattle.std.specs.List.{list_any}
 use Rattle.ll_rights.specs.Access.{holds}
 use Rattle.ll_rules.specs.Layer.{Layer, grants_on}
 use Rattle.ll_seq.specs.State.{State}
+use Rattle.ll_seq.specs.Tree.{named}
 use Rattle.ll_learn.specs.declared.draft.Scope.{Scope}
 use Rattle.ll_learn.specs.declared.fault.Unlearned.{Unlearned}
 use Rattle.ll_learn.specs.declared.fault.Unlearned.TheVariants as fault
@@ -17,8 +18,8 @@ use Rattle.ll_learn.specs.declared.still.SiteChains.{SiteChains}
 use Rattle.ll_learn.specs.Draft.{IsInScope, IsScope, may_have}
 use Rattle.ll_learn.specs.Learned.{NamesNone, may_hold}
 use Rattle.ll_learn.specs.Least.{AreNeeded}
-use Rattle.ll_learn.specs.Lesson.{AreNamed, AreOfSites, IsLeastOf, IsOfProfile, IsOfSites, gives}
-use Rattle.ll_learn.specs.Mended.{AreSiteChains}
+use Rattle.ll_learn.specs.Lesson.{AreNamed, AreOfSites, IsOfDraft, IsOfProfile, IsOfSites, gives}
+use Rattle.ll_learn.specs.Mended.{AreSiteChains, KnowEach}
 use Rattle.ll_learn.specs.Needs.{Meets}
 use Rattle.ll_learn.specs.Sites.{AreAll, AreSites, IsReached}
 
@@ -33,6 +34,8 @@ pub record IsFrame (s : State) (aim : Aim) (frame : Frame) : Type 0 where
   pub all : IsReached s → AreAll s frame.sites
   pub may : AreOfSites frame.sites held frame.scope.may.items
   pub chains : AreSiteChains s frame.chains
+  pub known : IsReached s → KnowEach s frame.scope frame.chains
+  pub beneath : map Some frame.scope.beneath.items ≡ map (named s) aim.beneath.now
 
 abbrev pub IsUnframed : State → Aim → Unlearned → Type 0
 IsUnframed s aim (fault.NoNode index) = NamesNone s aim index
@@ -50,7 +53,7 @@ pub record MeetsNeeds (sites : Sites) (chains : SiteChains) (scope : Scope) (nee
   pub within : (layer : Layer) → IsOfProfile profile layer → IsInScope scope layer
   pub meets : (layer : Layer) → IsOfProfile profile layer → Meets (grants_on layer) needs
   pub needed : (layer : Layer) → IsOfProfile profile layer → AreNeeded (λ less. Meets (grants_on less) needs) layer
-  pub least : profile.is_least ≡ true → IsLeastOf chains scope needs profile
+  pub drafted : IsOfDraft chains scope needs profile
 
 -- no layer of the scope meets the needs, or memory ran out
 abbrev pub IsUnprofiled : Scope → Needs → Unlearned → Type 0

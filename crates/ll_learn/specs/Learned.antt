@@ -1,6 +1,6 @@
 -- What is learned from histories. own
 use Rattle.std.specs.Prelude.{⊤, ◌≡◌, ◌⊎◌, ◌<◌, ◌≤◌, ◌+◌, ◌-◌, ℕ, ◌==◌, ◌&&◌, Bool, true, false, not, List, [], map}
-use Rattle.std.specs.Prelude.{Some, None, All, Contains, drop, length, slice_get, take}
+use Rattle.std.specs.Prelude.{◌↔◌, Some, None, All, Contains, IsTrue, drop, length, slice_get, take}
 use Rattle.std.specs.List.{list_any}
 use Rattle.ll_rights.specs.Access.{holds}
 use Rattle.ll_rules.specs.Layer.{Layer}
@@ -12,12 +12,17 @@ use Rattle.ll_seq.specs.Tree.{named}
 use Rattle.ll_audit.specs.Audit.{IsFirstIllegal}
 use Rattle.ll_learn.specs.declared.fault.Unlearned.{Unlearned}
 use Rattle.ll_learn.specs.declared.fault.Unlearned.TheVariants as fault
+use Rattle.ll_learn.specs.declared.draft.Draft.{Draft}
+use Rattle.ll_learn.specs.declared.draft.Scope.{Scope}
 use Rattle.ll_learn.specs.declared.learned.Aim.{Aim}
+use Rattle.ll_learn.specs.declared.needs.Needs.{Needs}
 use Rattle.ll_learn.specs.declared.profile.LearnedProfile.{LearnedProfile}
 use Rattle.ll_learn.specs.Bound.{Part, PassesEach, ReachesNoMore}
+use Rattle.ll_learn.specs.Draft.{IsInScope}
 use Rattle.ll_learn.specs.Faults.{IsFirstDenied, IsFirstFull}
+use Rattle.ll_learn.specs.Gathered.{AreNeedsOfAll}
 use Rattle.ll_learn.specs.Least.{AreNeeded}
-use Rattle.ll_learn.specs.Lesson.{AreNamed, IsOfProfile, gives}
+use Rattle.ll_learn.specs.Lesson.{AreNamed, AreRulesOf, IsCalledLeast, IsOfProfile, gives}
 use Rattle.ll_learn.specs.Passing.{IsLearnable}
 use Rattle.ll_learn.specs.Sites.{IsLayerOf}
 
@@ -65,8 +70,20 @@ abbrev pub IsWithinAim : State → Aim → Layer → Type 0
 IsWithinAim s aim layer = (held : ℕ) → ((right : ℕ) → right < 15 → holds held right ≡ may_hold aim right) →
     IsLayerOf s aim.handled.0 held layer
 
+-- When a profile is called least. The needs are those of the parts, the draft has the profile's rules, and the scope's
+-- layers are those within the aim
+pub record IsCalled (s : State) (parts : List Part) (aim : Aim) (profile : LearnedProfile) : Type 0 where
+  pub needs : Needs
+  pub scope : Scope
+  pub draft : Draft
+  pub of : AreNeedsOfAll parts needs
+  pub within : (layer : Layer) → IsInScope scope layer ↔ IsWithinAim s aim layer
+  pub beneath : map Some scope.beneath.items ≡ map (named s) aim.beneath.now
+  pub rules : AreRulesOf draft profile.rules.items
+  pub called : IsTrue profile.is_least ↔ IsCalledLeast s scope needs draft
+
 -- Each part passes under the profile's layer. Without any one right of any one of its rules, some part doesn't. If the
--- profile is least, no layer within the aim under which each part passes reaches less at the cut
+-- profile is least, no layer within the aim under which each part passes reaches less at the cut. called: when it is
 pub record IsLearnedAt (s : State) (parts : List Part) (aim : Aim) (profile : LearnedProfile) : Type 0 where
   pub learnable : (part : Part) → Contains parts part → IsLearnable part.cut part.client part.entries
   pub handled : profile.handled ≡ aim.handled
@@ -77,6 +94,7 @@ pub record IsLearnedAt (s : State) (parts : List Part) (aim : Aim) (profile : Le
   pub needed : (layer : Layer) → IsOfProfile profile layer → AreNeeded (PassesEach parts) layer
   pub least : profile.is_least ≡ true → (least : Layer) → IsOfProfile profile least
       → (layer : Layer) → IsWithinAim s aim layer → PassesEach parts layer → ReachesNoMore s least layer
+  pub called : IsCalled s parts aim profile
 
 -- after the client's connect, in a tree that began in this state
 pub record IsLearned (s : State) (histories : List (List Entry)) (aim : Aim) (profile : LearnedProfile) : Type 0 where

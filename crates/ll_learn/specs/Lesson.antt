@@ -18,7 +18,7 @@ use Rattle.ll_learn.specs.declared.still.SiteChains.{SiteChains}
 use Rattle.ll_learn.specs.declared.profile.LearnedProfile.{LearnedProfile}
 use Rattle.ll_learn.specs.declared.profile.LearnedRule.{LearnedRule}
 use Rattle.ll_learn.specs.Draft.{IsCharged, IsNeed, has, may_have, right_at, without}
-use Rattle.ll_learn.specs.Mended.{AreDerived, AreSiteChains, IsStill}
+use Rattle.ll_learn.specs.Mended.{AreDerived, AreSiteChains, IsStill, KnowEach}
 use Rattle.ll_learn.specs.Sites.{IsAmong}
 
 -- ---- Rules on nodes
@@ -69,19 +69,19 @@ IsNeededBy draft needs inode origin = (right : ℕ) × (need : Need)
     × IsNeed (without inode (has draft right)) right needs.asks.items needs.moves.items need
     × (origin_of need ≡ origin)
 
--- ---- Which profiles are least
+-- ---- Which profiles are called least
 
--- nothing is widened; and if these are chains of directories, no directory that nodes move into has moved
-abbrev pub IsUnmoved : SiteChains → Scope → Needs → Type 0
-IsUnmoved chains scope needs =
-    (scope.beneath.items ≡ []) × ((s : State) → AreSiteChains s chains → IsStill s needs scope)
+-- Nobody else moves or names a node. And each right of a rule is asked on a path where no rule further down may have
+-- it; or nothing is widened, and no directory that nodes move into has moved
+abbrev pub IsCalledLeast : State → Scope → Needs → Draft → Type 0
+IsCalledLeast s scope needs draft =
+    (needs.outside ≡ None)
+    × (IsCharged scope needs draft ⊎ ((scope.beneath.items ≡ []) × IsStill s needs scope))
 
--- The profile is least: nobody else moves or names a node, and one of two things holds. Each right of its rules is
--- asked on a path where no rule further down may have it. Or each is asked or mended, and no directory that nodes move
--- into has moved
-pub record IsLeastOf (chains : SiteChains) (scope : Scope) (needs : Needs) (profile : LearnedProfile) : Type 0 where
+-- The profile has the rules of a draft, each right of which is asked or mended. It is called least if that draft is
+pub record IsOfDraft (chains : SiteChains) (scope : Scope) (needs : Needs) (profile : LearnedProfile) : Type 0 where
   pub draft : Draft
   pub rules : AreRulesOf draft profile.rules.items
   pub derived : AreDerived scope needs draft
-  pub why : IsCharged scope needs draft ⊎ IsUnmoved chains scope needs
-  pub alone : needs.outside ≡ None
+  pub called : (s : State) → AreSiteChains s chains → KnowEach s scope chains
+      → IsTrue profile.is_least ↔ IsCalledLeast s scope needs draft

@@ -13,8 +13,10 @@ pub mod Watching
 pub mod Sites
 pub mod Profile
 pub mod Lesson
+pub mod Gathered
 pub mod Learned
 pub mod Opening
+pub mod Undeniable
 pub mod Framed
 pub mod Charges
 pub mod There

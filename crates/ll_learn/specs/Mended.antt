@@ -1,5 +1,8 @@
 -- Drafts with rights that are asked or mended are least if no directory that matters has moved. own
-use Rattle.std.specs.Prelude.{◌≡◌, ◌<◌, ℕ, true, List, [], ◌∷◌, ◌++◌, Some, All}
+use Rattle.std.specs.Prelude.{◌≡◌, ◌≢◌, ◌⊎◌, ◌<◌, ℕ, true, List, [], ◌∷◌, ◌++◌, Some, All, slice_get}
+use Rattle.std.specs.Option.{option_map_or}
+use Rattle.std.specs.declared.alloc.Global.{Global}
+use Rattle.std.specs.declared.vec.Vec.{Vec}
 use Rattle.ll_rights.specs.declared.kind.Kind.TheVariants.{Dir}
 use Rattle.ll_path.specs.Path.{Path}
 use Rattle.ll_rules.specs.Layer.{Layer}
@@ -9,7 +12,7 @@ use Rattle.ll_learn.specs.declared.draft.Draft.{Draft}
 use Rattle.ll_learn.specs.declared.draft.Scope.{Scope}
 use Rattle.ll_learn.specs.declared.needs.Moved.{Moved}
 use Rattle.ll_learn.specs.declared.needs.Needs.{Needs}
-use Rattle.ll_learn.specs.declared.still.DirectorySite.{DirectorySite}
+use Rattle.ll_learn.specs.declared.site.Site.{Site}
 use Rattle.ll_learn.specs.declared.still.SiteChains.{SiteChains}
 use Rattle.ll_learn.specs.Bound.{BeginAt, Part, PassesEach, ReachesNoMore}
 use Rattle.ll_learn.specs.Charges.{AreNeedsOf, IsScopeAt, WereInOne}
@@ -34,9 +37,26 @@ ArePathsTo s scope inodes = (front behind : List ℕ) (inode right : ℕ) → in
 abbrev pub IsStill : State → Needs → Scope → Type 0
 IsStill s needs scope = All (λ (m : Moved). ArePathsTo s scope m.into.items) needs.moves.items
 
+-- the inodes of the path to a directory, if it is known
+abbrev pub chain_in : List (Vec ℕ Global) → ℕ → List ℕ
+chain_in rows inode = option_map_or (λ (row : Vec ℕ Global). row.items) (slice_get rows inode) []
+
+abbrev pub chain_at : SiteChains → ℕ → List ℕ
+chain_at chains = chain_in chains.rows.items
+
+-- whatever is known is a path to a directory
 abbrev pub AreSiteChains : State → SiteChains → Type 0
-AreSiteChains s chains =
-    All (λ (site : DirectorySite). IsPathTo s site.inode site.inodes.items) chains.rows.items
+AreSiteChains s chains = (inode : ℕ) → (chain_at chains inode ≡ []) ⊎ IsPathTo s inode (chain_at chains inode)
+
+-- a path is known to each directory among these nodes
+abbrev pub HasEachOf : State → List Site → SiteChains → Type 0
+HasEachOf s sites chains = (index : ℕ) (site : Site) (inode : ℕ) → slice_get sites index ≡ Some site
+    → named s site.path ≡ Some inode → kind_of s inode ≡ Some Dir → chain_at chains inode ≢ []
+
+-- the path to each directory on which a rule may have a right is known
+abbrev pub KnowEach : State → Scope → SiteChains → Type 0
+KnowEach s scope chains = (inode right : ℕ) (inodes : List ℕ) → right < 15 → may_have scope right inode ≡ true
+    → IsPathTo s inode inodes → chain_at chains inode ≡ inodes
 
 -- ---- The least of them
 

@@ -1,6 +1,5 @@
 -- What histories with the same beginning need. Cited by contracts between functions of the crate. own
-use Rattle.std.specs.Prelude.{⊤, ◌≡◌, ◌↔◌, ◌+◌, ℕ, List, All, Contains, None, Some, length, map, slice_get}
-use Rattle.ll_rules.specs.Layer.{Layer, grants_on}
+use Rattle.std.specs.Prelude.{⊤, ◌≡◌, ◌↔◌, ◌+◌, ℕ, List, All, None, Some, length, map, slice_get}
 use Rattle.ll_seq.specs.declared.reply.Entry.{Entry}
 use Rattle.ll_seq.specs.History.{state_after}
 use Rattle.ll_seq.specs.State.{State}
@@ -11,15 +10,13 @@ use Rattle.ll_learn.specs.declared.fault.LearnFault.{LearnFault}
 use Rattle.ll_learn.specs.declared.fault.LearnFault.TheVariants as late
 use Rattle.ll_learn.specs.declared.fault.Unlearned.{Unlearned}
 use Rattle.ll_learn.specs.declared.fault.Unlearned.TheVariants as fault
-use Rattle.ll_learn.specs.declared.needs.Asked.{Asked}
 use Rattle.ll_learn.specs.declared.needs.Needs.{Needs}
 use Rattle.ll_learn.specs.declared.needs.Origin.{Origin}
-use Rattle.ll_learn.specs.Bound.{AllowsEach, MovesAreTheirs, Part, WereThere}
-use Rattle.ll_learn.specs.Charges.{WereInOne}
+use Rattle.ll_learn.specs.Bound.{MovesAreTheirs, WereThere}
 use Rattle.ll_learn.specs.Faults.{IsFirstDenied, IsFirstFull}
+use Rattle.ll_learn.specs.Gathered.{AreNeedsOfAll}
 use Rattle.ll_learn.specs.Learned.{BeginsSo, IsBehind, IsUnlike, NeverConnects, part_behind}
-use Rattle.ll_learn.specs.Mended.{AreMovesOf}
-use Rattle.ll_learn.specs.Needs.{Adds, AreRooted, Meets}
+use Rattle.ll_learn.specs.Needs.{Adds, AreRooted}
 use Rattle.ll_learn.specs.Passing.{IsLearnable, is_client}
 use Rattle.ll_learn.specs.There.{ComeFrom, MovesMore}
 
@@ -30,17 +27,7 @@ pub record Gathers (s : State) (client : ℕ) (es : List Entry) (old new : Needs
   pub rooted : AreRooted old → AreRooted new
   pub paths : ComeFrom s es old new
   pub moves : MovesMore (WereThere s es) old new
-  pub outside : new.outside ≡ None → (old.outside ≡ None) × MovesAreTheirs (is_client client) es
-
--- the needs of these parts
-pub record AreNeedsOfAll (parts : List Part) (needs : Needs) : Type 0 where
-  pub learnable : (part : Part) → Contains parts part → IsLearnable part.cut part.client part.entries
-  pub met : (layer : Layer) → Meets (grants_on layer) needs ↔ AllowsEach parts layer
-  pub rooted : AreRooted needs
-  pub paths : All (λ (a : Asked). WereInOne parts a.inodes.items) needs.asks.items
-  pub moves : AreMovesOf parts needs
-  pub theirs : needs.outside ≡ None → (part : Part) → Contains parts part
-      → MovesAreTheirs (is_client part.client) part.entries
+  pub outside : (new.outside ≡ None) ↔ ((old.outside ≡ None) × MovesAreTheirs (is_client client) es)
 
 -- the needs of histories that begin with these entries
 pub record AreGathered (s : State) (early : List Entry) (client : ℕ) (hs : List (List Entry)) (needs : Needs)

@@ -38,8 +38,8 @@ use ll_why::{Asks, PathChains, kept_number};
 use std::alloc::{AllocError, Global};
 use std::slice;
 
-// Returns what is found for a call, or None if it is refused before policy.
-fn found_for(tree: &Plain, caller: &ClientRecord, call: &Call) -> Option<Found>
+/// Returns what is found for a call, or None if it is refused before policy.
+pub(crate) fn found_for(tree: &Plain, caller: &ClientRecord, call: &Call) -> Option<Found>
     ensures refused { result ≡ None → before_policy tree.now caller.now call.now ≢ [] }
     ensures free { IfSome result (λ found. before_policy tree.now caller.now call.now ≡ []) }
     ensures passed { IfSome result (Passed tree.now caller.now call.now) }

@@ -50,8 +50,8 @@ fn right_at(sets: &[Access], right: Right, inode: u64) -> bool
     place < sets.len() && sets[place].holds(right)
 }
 
-// Reports whether the inode is among these.
-fn is_among(inodes: &[u64], inode: u64) -> bool
+/// Reports whether the inode is among these.
+pub(crate) fn is_among(inodes: &[u64], inode: u64) -> bool
     ensures { result ≡ list_any (λ i. i == inode) inodes.now }
 {
     inodes.iter().any(|i| *i == inode)
@@ -78,12 +78,15 @@ impl Scope {
 
     /// Reports whether a rule on the inode may have any right.
     pub(crate) fn may_have_any(&self, inode: u64) -> bool
-        ensures { (right : ℕ) → may_have self.now right inode ≡ true → result ≡ true }
+        ensures some { result ≡ true → (right : ℕ) × (right < 15) × (may_have self.now right inode ≡ true) }
+        ensures all { (right : ℕ) → right < 15 → may_have self.now right inode ≡ true → result ≡ true }
     {
-        match self.may.get(inode as usize) {
-            Some(rights) => rights.0 != 0,
-            None => false,
+        for right in Right::ALL {
+            if self.may_have(right, inode) {
+                return true;
+            }
         }
+        false
     }
 
     /// Reports whether the layer restricts the right.

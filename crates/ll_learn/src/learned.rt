@@ -1,9 +1,10 @@
 //! Learns from histories.
 
-ghost use Rattle.std.specs.Prelude.{◌≡◌, ◌<◌, ◌≤◌, ◌-◌, ◌^◌, ℕ, true, IfErr, IfOk, map};
+ghost use Rattle.std.specs.Prelude.{◌≡◌, ◌<◌, ◌≤◌, ◌-◌, ◌^◌, ℕ, Some, true, IfErr, IfOk, map};
 ghost use Rattle.ll_rights.specs.Access.{holds};
 ghost use Rattle.ll_rights.specs.Map.{has};
 ghost use Rattle.ll_rights.specs.declared.limits.TheConstants.{TREE_NODES};
+ghost use Rattle.ll_seq.specs.Tree.{named};
 ghost use Rattle.ll_audit.specs.Saved.{opened};
 ghost use Rattle.ll_learn.specs.Draft.{IsScope};
 ghost use Rattle.ll_learn.specs.Framed.{IsFrame, IsUnframed, IsUnprofiled, MeetsNeeds};
@@ -58,7 +59,8 @@ impl Aim<'_> {
 
     // Returns the nodes whose rules take what is needed below them.
     fn inodes(&self, alloc: Global, tree: &Plain) -> Result<Vec<u64>, Unlearned>
-        ensures { IfErr result (IsUnframed tree.now self.now) }
+        ensures inodes { IfOk result (λ inodes. map Some inodes.items ≡ map (named tree.now) self.now.beneath.now) }
+        ensures fault { IfErr result (IsUnframed tree.now self.now) }
     {
         let mut inodes = Vec::new(alloc);
         for (i, path) in self.beneath.iter().enumerate() {

@@ -1,10 +1,12 @@
 //! The least profile that meets what calls need.
 
-ghost use Rattle.std.specs.Prelude.{◌≡◌, ◌⊎◌, ℕ, true, None, IfErr, IfOk};
+ghost use Rattle.std.specs.Prelude.{◌≡◌, ◌↔◌, ℕ, IfErr, IfOk, IsTrue};
 ghost use Rattle.ll_rules.specs.Layer.{Layer, grants_on};
-ghost use Rattle.ll_learn.specs.Draft.{IsCharged, IsInScope, IsScope, IsUnmet};
+ghost use Rattle.ll_seq.specs.State.{State};
+ghost use Rattle.ll_learn.specs.Draft.{IsInScope, IsScope, IsUnmet};
 ghost use Rattle.ll_learn.specs.Framed.{MeetsNeeds};
-ghost use Rattle.ll_learn.specs.Lesson.{IsOfSites, IsUnmoved};
+ghost use Rattle.ll_learn.specs.Lesson.{IsCalledLeast, IsOfSites};
+ghost use Rattle.ll_learn.specs.Mended.{AreSiteChains, KnowEach};
 ghost use Rattle.ll_learn.specs.Needs.{AreRooted, Meets};
 
 use crate::draft::{Draft, Scope};
@@ -16,11 +18,11 @@ use crate::solution::{DraftFault, least_draft};
 use crate::still::SiteChains;
 use std::alloc::Global;
 
-// Reports whether the draft is least. One case: each of its rights is asked on a path where no rule further down may
-// have it. The other: no directory that nodes move into has moved, and nobody else moves anything.
+// Reports whether the draft is called least. Nobody else moves anything; and each of its rights is asked on a path
+// where no rule further down may have it, or nothing is widened and no directory that nodes move into has moved.
 fn is_least(draft: &Draft, scope: &Scope, needs: &Needs, chains: &SiteChains) -> bool
-    ensures why { result ≡ true → IsCharged scope.now needs.now draft.now ⊎ IsUnmoved chains.now scope.now needs.now }
-    ensures alone { result ≡ true → needs.now.outside ≡ None }
+    ensures { (s : State) → AreSiteChains s chains.now → KnowEach s scope.now chains.now
+        → IsTrue result ↔ IsCalledLeast s scope.now needs.now draft.now }
 {
     if needs.outside.is_some() {
         return false;

@@ -10,6 +10,7 @@ mod index;
 mod laws;
 mod learned;
 mod lesson;
+mod made;
 mod needs;
 mod opening;
 mod profile;
@@ -18,6 +19,7 @@ mod site;
 mod solution;
 mod span;
 mod still;
+mod undenied;
 mod watch;
 
 pub use draft::{Draft, Need, Scope};
@@ -27,8 +29,10 @@ pub use laws::{
     need_is_reached, same_replies, truncate_is_required,
 };
 pub use learned::{Aim, learn};
+pub use made::{Made, made_rights};
 pub use needs::{Asked, Moved, Needs, Origin};
 pub use opening::cut_of;
 pub use profile::{LearnedProfile, LearnedRule, Notes};
 pub use site::{Site, Sites};
 pub use solution::{DraftFault, least_draft, need_of};
+pub use undenied::{Basis, Grant, Trial, Undenied, why_undenied};

@@ -175,8 +175,8 @@ impl Needs {
         has_ask(&self.asks, places, rights, inodes)
     }
 
-    // Reports whether such a move is there already.
-    fn has_moved(&self, rights: Access, from: &[u64], into: &[u64]) -> bool
+    /// Reports whether such a move is there already.
+    pub(crate) fn has_moved(&self, rights: Access, from: &[u64], into: &[u64]) -> bool
         ensures { IsTrue result → (grants : List ℕ → ℕ → Bool) → Meets grants self.now
             → GivesNone grants rights.0 from.now into.now }
     {

@@ -1,6 +1,7 @@
 //! The part that several histories begin with.
 
 ghost use Rattle.std.specs.Prelude.{◌≡◌, ◌<◌, ◌≤◌, ◌+◌, ◌^◌, ℕ, IfErr, IfNone, IfOk, IfSome, OnOk, drop, length, map};
+ghost use Rattle.std.specs.Prelude.{take};
 ghost use Rattle.ll_rights.specs.declared.limits.TheConstants.{TREE_NODES};
 ghost use Rattle.ll_seq.specs.History.{IsLegal, state_after};
 ghost use Rattle.ll_audit.specs.Saved.{opened};
@@ -139,6 +140,32 @@ impl Opening<'_> {
         match needs.add(alloc, &mut tree, self.client, late, history) {
             Ok(()) => Ok(()),
             Err(fault) => Err(self.fault(fault, history)),
+        }
+    }
+
+    /// Returns the tree after so many entries of a history behind the cut. None if the history doesn't begin with the
+    /// same entries, isn't legal or has fewer, or memory ran out.
+    pub(crate) fn tree_behind(
+        &self,
+        alloc: Global,
+        entries: &[Entry],
+        count: usize,
+    ) -> Option<Plain>
+        requires some { 1 ≤ self.now.header.now.nodes }
+        requires most { self.now.header.now.nodes ≤ TREE_NODES }
+        ensures tree { IfSome result (λ tree. tree
+            ≡ state_after (state_after (opened self.now.header.now) self.now.early.now)
+            (take count (drop (length self.now.early.now) entries.now))) }
+        ensures legal { IfSome result (λ tree. IsLegal (opened self.now.header.now) self.now.early.now) }
+    {
+        let late = self.late(entries, 0).ok()?;
+        let mut tree = self.tree(alloc, 0).ok()?;
+        if late.len() < count {
+            return None;
+        }
+        match follow(&mut tree, &late[..count]) {
+            Ok(()) => Some(tree),
+            Err(_) => None,
         }
     }
 

@@ -64,6 +64,7 @@ impl Sites {
         ensures scope { IfOk result IsScope }
         ensures sites { IfOk result (IsOfSites self.now) }
         ensures all { IfOk result (λ scope. AreOfSites self.now held.0 scope.may.items) }
+        ensures beneath { IfOk result (λ scope. scope.beneath ≡ beneath) }
     {
         let may = may_of(alloc, self, held)?;
         let order = self.rows.iter().map(|site| site.inode).collect(alloc)?;

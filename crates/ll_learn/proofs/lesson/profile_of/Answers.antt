@@ -31,11 +31,10 @@ returns-clause-meets c = record {
   within = λ layer is. c.in-Ok.ensures.within layer (drafted _ _ layer c.in-Ok-rules_of.ensures.rules refl is);
   meets = λ layer is. c.in-Ok.ensures.meets layer (drafted _ _ layer c.in-Ok-rules_of.ensures.rules refl is);
   needed = λ layer is. c.in-Ok.ensures.needed layer (drafted _ _ layer c.in-Ok-rules_of.ensures.rules refl is);
-  least = λ is. record {
+  drafted = record {
     draft = c.in-Ok.draft;
     rules = c.in-Ok-rules_of.ensures.rules;
     derived = c.in-Ok.ensures.derived;
-    why = c.is_least.ensures.why is;
-    alone = c.is_least.ensures.alone is;
+    called = c.is_least.ensures;
   };
 }

@@ -10,7 +10,7 @@ pub loop-history-init : goal.loop-history-init
 loop-history-init c =
     gathered_none (opened c.args.self.now.header.now) c.args.self.now.early.now c.args.self.now.client
     c.args.histories.now c.new-needs.result (λ layer. c.new-needs.ensures.meets (grants_on layer))
-    c.new-needs.ensures.rooted c.new-needs.ensures.asks c.new-needs.ensures.moves
+    c.new-needs.ensures.rooted c.new-needs.ensures.asks c.new-needs.ensures.moves c.new-needs.ensures.outside
 
 pub loop-history-preserved : goal.loop-history-preserved
 loop-history-preserved c =

@@ -7,5 +7,5 @@ use Rattle.ll_learn.proofs.still.SiteChains.are_on.Given as goal
 -- so far
 abbrev pub invariant-loop-i : goal.invariant-loop-i
 invariant-loop-i l = (s : State) → AreSiteChains s l.self → (front behind : List ℕ) (inode right : ℕ)
-    → l.inodes ≡ front ++ inode ∷ behind → length front < l.i → may_have l.scope right inode ≡ true
+    → l.inodes ≡ front ++ inode ∷ behind → length front < l.i → right < 15 → may_have l.scope right inode ≡ true
     → IsPathTo s inode (front ++ inode ∷ [])

@@ -5,8 +5,8 @@ use Rattle.ll_learn.specs.declared.needs.Moved.{Moved}
 use Rattle.ll_learn.specs.Mended.{ArePathsTo}
 use Rattle.ll_learn.proofs.still.SiteChains.is_still.Goals as goal
 
-pub returns : goal.returns
-returns c is s chains =
+pub returns-clause-still : goal.returns-clause-still
+returns-clause-still c is s chains =
     let moves = c.args.needs.now.moves.items in
     let i = c.loop-moved.moved-index in
     subst (All (λ (m : Moved). ArePathsTo s c.args.scope.now m.into.items))
