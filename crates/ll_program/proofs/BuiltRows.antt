@@ -132,7 +132,7 @@ schedule_built = with_built schedule.top
 abbrev pub rights_built : Shape
 rights_built = with_built rights.top
     (placed paths ∷ filled (needed (codes "policy")) ∷ filled (needed (codes "profile")) ∷ filled nodes
-    ∷ filled (flag (codes "layers")) ∷ help_built ∷ [])
+    ∷ filled (flag (codes "layers")) ∷ filled (valued (codes "as")) ∷ help_built ∷ [])
 
 abbrev pub check_built : Shape
 check_built = with_built check.top
@@ -405,7 +405,10 @@ rights_keep p a e = found_there (Keeps Good) p rights_built.rules a (
     needed_keeps (codes "policy") refl,
     (
       needed_keeps (codes "profile") refl,
-      (nodes_keep, (flag_keeps (codes "layers") refl, (help_keeps, tt))),
+      (
+        nodes_keep,
+        (flag_keeps (codes "layers") refl, (valued_keeps (codes "as") refl, (help_keeps, tt))),
+      ),
     ),
   ),
 ) e

@@ -17,6 +17,7 @@ use Rattle.ll_program.specs.Options.{CheckOrder, ExportOrder, RightsOrder, RunOr
 use Rattle.ll_program.specs.Options.{LearnOrder, WhyOrder}
 use Rattle.ll_program.specs.Options.{number_in}
 use Rattle.ll_program.specs.declared.denied.Denied.{Denied}
+use Rattle.ll_program.specs.declared.report.AnswerForm.{AnswerForm}
 use Rattle.ll_program.specs.declared.report.ReportForm.{ReportForm}
 use Rattle.ll_program.specs.declared.export.Form.{Form}
 
@@ -123,10 +124,17 @@ together_scheduled path n most level picture from to =
     }) most) n) path
 
 -- the rights that are wanted, where each part is there
-abbrev pub together_rights : Option Text → Option Text → Option ℕ → List Text → Bool → Option RightsOrder
-together_rights file name n told layers =
-    option_and_then (λ p. option_and_then
-    (λ q. option_map (λ k. record { policy = p; profile = q; nodes = k; paths = told; layers = layers }) n) name) file
+abbrev pub together_rights : Option Text → Option Text → Option ℕ → List Text → Bool → Option AnswerForm
+    → Option RightsOrder
+together_rights file name n told layers form =
+    option_and_then (λ p. option_and_then (λ q. option_map (λ k. record {
+      policy = p;
+      profile = q;
+      nodes = k;
+      paths = told;
+      layers = layers;
+      form = form;
+    }) n) name) file
 
 -- the same of a check
 abbrev pub together_checked : Option (List Text) → Option ℕ → Option ℕ → Option Text → Option Text → Bool → Bool
@@ -211,10 +219,10 @@ pub whole_schedule : (p : Option Text) (n m l : Option ℕ) (q : Option Text) (i
     → is_some (together_scheduled p n m l q i j) ≡ true
 whole_schedule p n m l q i j path nodes most e f g = rw (e, f, g) refl
 
-pub whole_rights : (p q : Option Text) (n : Option ℕ) (told : List Text) (layers : Bool) (file name : Text) (nodes : ℕ)
-    → p ≡ Some file → q ≡ Some name → n ≡ Some nodes
-    → is_some (together_rights p q n told layers) ≡ true
-whole_rights p q n told layers file name nodes e f g = rw (e, f, g) refl
+pub whole_rights : (p q : Option Text) (n : Option ℕ) (told : List Text) (layers : Bool) (form : Option AnswerForm)
+    (file name : Text) (nodes : ℕ) → p ≡ Some file → q ≡ Some name → n ≡ Some nodes
+    → is_some (together_rights p q n told layers form) ≡ true
+whole_rights p q n told layers form file name nodes e f g = rw (e, f, g) refl
 
 pub whole_check : (p : Option (List Text)) (n l : Option ℕ) (q r : Option Text) (s t : Bool) (u : Option ReportForm)
     (paths : List Text) (nodes : ℕ) → p ≡ Some paths → n ≡ Some nodes

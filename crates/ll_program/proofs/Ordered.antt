@@ -170,7 +170,7 @@ schedule_ends = ends_in schedule_built schedule_keeps
 
 rights_ends : (rest : List Text) → level_fault rights_built [] nothing_held rest false [] ≡ [] → Ends rights_built rest
 rights_ends = ends_in rights_built rights_keep
-    (tt, (tt, (tt, (nodes_default, (flag_default (codes "layers") refl, (tt, tt))))))
+    (tt, (tt, (tt, (nodes_default, (flag_default (codes "layers") refl, (tt, (tt, tt)))))))
 
 check_ends : (rest : List Text) → level_fault check_built [] nothing_held rest false [] ≡ [] → Ends check_built rest
 check_ends = ends_in check_built check_keeps (
@@ -284,7 +284,7 @@ rights_wanted rest e =
     let policy = text_of rows ends.0 (codes "policy") told.0 in
     let profile = text_of rows ends.0 (codes "profile") told.1 in
     let n = nodes_of rows ends.0 (ends.1.1.1.1.0 tt) in
-    whole_rights _ _ _ _ _ policy.0 profile.0 n.0 policy.1 profile.1 n.1
+    whole_rights _ _ _ _ _ _ policy.0 profile.0 n.0 policy.1 profile.1 n.1
 
 check_wanted : (rest : List Text) → level_fault check_built [] nothing_held rest false [] ≡ []
     → is_some (check_order (rows_after check_built.rules [] rest)) ≡ true

@@ -79,7 +79,8 @@ needed name = record (valued name) { required = true }
 
 abbrev pub rights : App
 rights = fold with_rule (new_app (codes "rights"))
-    (paths ∷ needed (codes "policy") ∷ needed (codes "profile") ∷ nodes ∷ flag (codes "layers") ∷ [])
+    (paths ∷ needed (codes "policy") ∷ needed (codes "profile") ∷ nodes ∷ flag (codes "layers")
+    ∷ valued (codes "as") ∷ [])
 
 -- one file or more
 abbrev pub files : Rule

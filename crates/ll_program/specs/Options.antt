@@ -15,6 +15,8 @@ use Rattle.ll_program.specs.declared.rights.RightsOptions.{RightsOptions}
 use Rattle.ll_program.specs.declared.options.CheckOptions.{CheckOptions}
 use Rattle.ll_program.specs.declared.serve.ServeOptions.{ServeOptions}
 use Rattle.ll_program.specs.declared.denied.Denied.{Denied}
+use Rattle.ll_program.specs.declared.report.AnswerForm.{AnswerForm}
+use Rattle.ll_program.specs.declared.report.AnswerForm.TheVariants as answers
 use Rattle.ll_program.specs.declared.report.ReportForm.{ReportForm}
 use Rattle.ll_program.specs.declared.report.ReportForm.TheVariants.{Tap, Junit}
 use Rattle.ll_program.specs.declared.report.ReportForm.TheVariants as reports
@@ -63,6 +65,7 @@ pub record RightsOrder : Type 0 where
   pub nodes : ℕ
   pub paths : List Text
   pub layers : Bool
+  pub form : Option AnswerForm
 
 pub record CheckOrder : Type 0 where
   pub files : List Text
@@ -170,6 +173,7 @@ rights_in o =
       nodes = o.nodes;
       paths = map (λ t. t.now) o.paths.items;
       layers = o.layers;
+      form = o.form;
     }
 
 abbrev pub checked_in : CheckOptions → CheckOrder
@@ -328,6 +332,11 @@ schedule_order rows =
     (number_of (codes "nodes") node_numbers rows))
     (first_of (codes "FILE") rows)
 
+-- the form of answers with this name; without one, text
+abbrev pub answer_form_by : Option Text → Option AnswerForm
+answer_form_by (Some word) = if bytes_eq word (codes "json") then Some answers.Json else None
+answer_form_by None = Some answers.Text
+
 abbrev pub rights_order : List Row → Option RightsOrder
 rights_order rows =
     option_and_then (λ file. option_and_then (λ name. option_map (λ n. record {
@@ -336,6 +345,7 @@ rights_order rows =
       nodes = n;
       paths = unwrap_or (all_of (codes "PATH") rows) [];
       layers = is_set (codes "layers") rows;
+      form = answer_form_by (first_of (codes "as") rows);
     })
     (number_of (codes "nodes") node_numbers rows))
     (first_of (codes "profile") rows))
@@ -510,6 +520,10 @@ may_be_drawn None from to = is_none from && is_none to
 
 abbrev pub fits_schedule : ScheduleOrder → Bool
 fits_schedule o = not (names_input o.picture (file_of o.file)) && may_be_drawn o.picture o.from o.to
+
+-- the form is known
+abbrev pub fits_rights : RightsOrder → Bool
+fits_rights o = is_some o.form
 
 -- whether a report's form goes with these wishes: only a text has fewer tests or more
 abbrev pub fits_report : Option ReportForm → (quiet verbose : Bool) → Bool

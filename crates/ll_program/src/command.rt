@@ -279,6 +279,12 @@ fn rights_command<'a>(alloc: Global) -> Result<Command<'a>, AllocError>
             "layers",
             "Add a column for each layer: what it grants, by the rule on which directory",
         ),
+        valued(
+            alloc,
+            "as",
+            "FORM",
+            "Print an object for another program on each line: json",
+        ),
     ]?;
     command_of(
         alloc,

@@ -1,4 +1,4 @@
-//! The forms of a check's report.
+//! The forms of a check's report, and of answers.
 
 /// The form of the report on a check's tests.
 #[derive(Clone, Copy, Debug, PartialEq, Eq)]
@@ -36,6 +36,31 @@ impl ReportForm {
         match word {
             Some(word) => ReportForm::of_word(word),
             None => Some(ReportForm::Text),
+        }
+    }
+}
+
+/// The form of an answer of `rights`.
+#[derive(Clone, Copy, Debug, PartialEq, Eq)]
+pub enum AnswerForm {
+    /// Lines of text.
+    Text,
+    /// An object of JSON on each line.
+    Json,
+}
+
+impl AnswerForm {
+    ghost use Rattle.std.specs.Prelude.{◌≡◌, option_map};
+    ghost use Rattle.ll_program.specs.Options.{answer_form_by};
+
+    // The form that a word names, if there is one; without a word, text.
+    pub(crate) fn by_word(word: Option<&str>) -> Option<AnswerForm>
+        ensures { result ≡ answer_form_by (option_map (λ w. w.now) word.entry) }
+    {
+        match word {
+            Some("json") => Some(AnswerForm::Json),
+            Some(_) => None,
+            None => Some(AnswerForm::Text),
         }
     }
 }

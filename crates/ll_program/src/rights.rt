@@ -3,13 +3,14 @@
 ghost use Rattle.std.specs.Prelude.{◌≡◌, ◌≤◌, codes, option_map, IfOk};
 ghost use Rattle.ll_rights.specs.declared.limits.TheConstants.{TREE_NODES};
 
+use crate::report::AnswerForm;
 use crate::values::{number_of, texts_of};
 use clap::ArgMatches;
 use ll_rights::limits::TREE_NODES;
 use std::alloc::{AllocError, Global};
 
 /// The options of `rights`: the policy file and the profile; the limit of live nodes; the paths to report (by default
-/// the policy's nodes); and whether to report each layer.
+/// the policy's nodes); whether to report each layer; and the form of the report.
 #[derive(Drop)]
 pub struct RightsOptions<'a> {
     pub policy: &'a str,
@@ -17,13 +18,15 @@ pub struct RightsOptions<'a> {
     pub nodes: usize,
     pub paths: Vec<&'a str>,
     pub layers: bool,
+    /// None if its word names none.
+    pub form: Option<AnswerForm>,
     ghost some: { 1 ≤ nodes },
     ghost most: { nodes ≤ TREE_NODES },
 }
 
 impl<'a> RightsOptions<'a> {
     ghost use Rattle.clap.specs.Words.{found_of, rows_of};
-    ghost use Rattle.ll_program.specs.Options.{is_set, rights_in, rights_order};
+    ghost use Rattle.ll_program.specs.Options.{fits_rights, is_set, rights_in, rights_order};
 
     // Whether `--layers` is given.
     #[tactic(auto, using(crate::proofs::Numbers::text_told))]
@@ -55,12 +58,21 @@ impl<'a> RightsOptions<'a> {
             return Ok(None);
         };
         let layers = RightsOptions::shows_layers(rights);
+        let form = AnswerForm::by_word(rights.get_str("as"));
         Ok(Some(RightsOptions {
             policy,
             profile,
             nodes: nodes as usize,
             paths,
             layers,
+            form,
         }))
+    }
+
+    /// Reports whether the form is known.
+    pub fn fit(&self) -> bool
+        ensures { result ≡ fits_rights (rights_in self.now) }
+    {
+        self.form.is_some()
     }
 }

@@ -13,7 +13,8 @@ returns-clause-app c =
     (ap₂ ◌∷◌ (ap rule_of c.required.ensures ∙ ap must c.policy_option.ensures.rule)
     (ap₂ ◌∷◌ (ap rule_of c.required-2.ensures ∙ ap must c.profile_option.ensures.rule)
     (ap₂ ◌∷◌ c.nodes_option.ensures.rule
-    (ap₂ ◌∷◌ c.flag.ensures.rule refl)))))
+    (ap₂ ◌∷◌ c.flag.ensures.rule
+    (ap₂ ◌∷◌ c.valued.ensures.rule refl))))))
     c.command_of.ensures.app
 
 pub command_of-requires : goal.command_of-requires
@@ -26,7 +27,7 @@ command_of-requires c =
           ap (λ (a : Arg). a.global) c.required-2.ensures ∙ c.profile_option.ensures.local,
           (
             c.nodes_option.ensures.local,
-            (c.flag.ensures.local, tt),
+            (c.flag.ensures.local, (c.valued.ensures.local, tt)),
           ),
         ),
       ),
