@@ -32,7 +32,8 @@ use Rattle.ll_program.specs.declared.failure.Failure.{Failure}
 use Rattle.ll_program.specs.declared.failure.Failure.TheVariants.{File, NoMemory, Opening}
 use Rattle.ll_check.specs.declared.lessons.FileLessons.{FileLessons}
 use Rattle.ll_check.specs.declared.reading.Test.{Test}
-use Rattle.ll_check.specs.Files.{Tests, room_for}
+use Rattle.ll_check.specs.Checks.{Tests}
+use Rattle.ll_check.specs.Files.{room_for}
 use Rattle.ll_check.specs.Lessons.{AreMade, AreMet, AreRun, AreTaught, AreUnmet, FailsToMake, HasUnmet, HasUnmetFile}
 use Rattle.ll_check.specs.Lessons.{IsBlank, IsLearnedFrom, IsTree, IsUnmet, picked, ran_out}
 use Rattle.ll_check.specs.Replied.{HasReplies}

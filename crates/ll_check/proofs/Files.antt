@@ -1,9 +1,9 @@
 -- Files, checked one after the other.
 use Rattle.std.proofs.Common.{◌≡◌, ◌∙◌, ◌<◌, ℕ, zero, suc, ◌+◌, List, [], ◌∷◌, ◌++◌, length, map, take, get_or}
 use Rattle.std.proofs.Common.{Option, Some, None, option_map, is_some, true, refl, sym, ap, ap₂, subst, arith, inl}
-use Rattle.std.proofs.Common.{inr, Result, Ok, Err}
+use Rattle.std.proofs.Common.{inr, Result, Ok, Err, append-nil, append_assoc}
 use Rattle.std.specs.Prelude.{◌&&◌, IfErr, IfOk, min, slice_get}
-use Rattle.std.specs.List.{AllZip, list_all}
+use Rattle.std.specs.List.{list_all}
 use Rattle.std.specs.Option.{option_map_or}
 use Rattle.std.specs.Borrow.{Bor}
 use Rattle.std.specs.declared.vec.Vec.{Vec}
@@ -24,47 +24,60 @@ use Rattle.ll_program.specs.declared.checked.Checked.TheVariants.{BadLine}
 use Rattle.ll_program.specs.declared.failure.Failure.{Failure}
 use Rattle.ll_program.specs.Policy.{IsSetBy, IsSetup, Lacks}
 use Rattle.ll_check.specs.declared.checks.NamedText.{NamedText}
-use Rattle.ll_check.specs.declared.checks.ReadFile.{ReadFile}
 use Rattle.ll_check.specs.declared.judging.Style.{Style}
 use Rattle.ll_check.specs.declared.judging.Tally.{Tally}
 use Rattle.ll_check.specs.declared.reading.CheckFault.{CheckFault}
 use Rattle.ll_check.specs.declared.reading.CheckFault.TheVariants as faults
+use Rattle.ll_check.specs.declared.reading.ReadFile.{ReadFile}
 use Rattle.ll_check.specs.declared.reading.Test.{Test}
-use Rattle.ll_check.specs.Checks.{IsFirstBad}
-use Rattle.ll_check.specs.Files.{AreChecked, AreTestsOf, Concludes, HasBadLine, IsCheck, IsFileChecked, IsReadAs}
-use Rattle.ll_check.specs.Files.{HasBegun, IsSetFor, MayFail, Tests, style_of, has_test, room_for, source_of, tests_of}
+use Rattle.ll_check.specs.Checks.{IsFirstBad, Tests, has_test, tests_of}
+use Rattle.ll_check.specs.Files.{AreChecked, AreTestsIn, AreTestsOf, Concludes, HasBadLine, IsCheck, IsFileChecked}
+use Rattle.ll_check.specs.Files.{HasBegun, IsSetFor, MayFail, Source, style_of, room_for, source_of}
 use Rattle.ll_check.specs.Report.{IsChecked}
 
 -- ---- files that are read
 
-pub all_read : (texts : List NamedText) (files : List ReadFile) → AllZip IsReadAs texts files
-    → AllZip AreTestsOf (map source_of texts) (map tests_of files)
-all_read [] [] read = tt
-all_read [] (file ∷ files) read = absurd read
-all_read (text ∷ texts) [] read = absurd read
-all_read (text ∷ texts) (file ∷ files) read = (read.0, all_read texts files read.1)
+-- one file more
+sections_more : (sources : List Source) (files : List Tests) (source : Source) (own : List Tests)
+    → AreTestsIn sources files → AreTestsOf source own → AreTestsIn (sources ++ source ∷ []) (files ++ own)
+sections_more [] files source own none is =
+    (own, [], ap (λ (x : List Tests). x ++ own) none ∙ sym (append-nil own), is, refl)
+sections_more (first ∷ sources) files source own read is =
+    let rest = sections_more sources read.1 source own read.4 is in (
+      read.0,
+      read.1 ++ own,
+      ap (λ (x : List Tests). x ++ own) read.2 ∙ append_assoc read.0 read.1 own,
+      read.3,
+      rest,
+    )
 
 -- where the next one is read, the texts before the ones that are left are
-pub read_more : (texts : List NamedText) (i : ℕ) (files : List ReadFile) (text : NamedText) (file : ReadFile)
-    → i < length texts → text ≡ get_or texts i text → AllZip IsReadAs (take i texts) files → IsReadAs text file
-    → AllZip IsReadAs (take (suc i) texts) (files ++ file ∷ [])
-read_more [] i files text file below is read more = absurd (omega (arith, below))
-read_more (t ∷ ts) zero [] text file below is read more = (subst (λ x. IsReadAs x file) is more, tt)
-read_more (t ∷ ts) zero (c ∷ files) text file below is read more = absurd read
-read_more (t ∷ ts) (suc i) [] text file below is read more = absurd read
-read_more (t ∷ ts) (suc i) (c ∷ files) text file below is read more =
-    (read.0, read_more ts i files text file (omega (arith, below)) is read.1 more)
+pub read_more : (texts : List NamedText) (i : ℕ) (files own all : List ReadFile) (text : NamedText)
+    → i < length texts → text ≡ get_or texts i text
+    → AreTestsIn (map source_of (take i texts)) (map tests_of files)
+    → AreTestsOf (source_of text) (map tests_of own) → all ≡ files ++ own
+    → AreTestsIn (map source_of (take (i + 1) texts)) (map tests_of all)
+read_more texts i files own all text below is read more same =
+    let sources : map source_of (take (i + 1) texts) ≡ map source_of (take i texts) ++ source_of text ∷ [] =
+    ap (map source_of) (take_more texts i text below)
+    ∙ map-append source_of (take i texts) (get_or texts i text ∷ [])
+    ∙ ap (λ (x : NamedText). map source_of (take i texts) ++ source_of x ∷ []) (sym is) in
+    let both : map tests_of all ≡ map tests_of files ++ map tests_of own =
+    ap (map tests_of) same ∙ map-append tests_of files own in
+    subst (λ (x : List Source). AreTestsIn x (map tests_of all)) (sym sources)
+    (subst (λ (x : List Tests). AreTestsIn (map source_of (take i texts) ++ source_of text ∷ []) x) (sym both)
+    (sections_more (map source_of (take i texts)) (map tests_of files) (source_of text) (map tests_of own) read more))
 
 -- a bad line of a text is one of its source
 pub bad_line : (texts : List NamedText) (file line : ℕ) (text : NamedText) (bytes : List ℕ) → file < length texts
-    → text ≡ get_or texts file text → bytes ≡ text.text.items → IsFirstBad (pieces bytes) line
+    → text ≡ get_or texts file text → bytes ≡ text.text.items → IsFirstBad text.name.now (pieces bytes) line
     → HasBadLine (map source_of texts)
 bad_line texts file line text bytes below is all bad = (
   file,
   line,
   source_of text,
   slice_get-map source_of texts file ∙ ap (option_map source_of) (there texts file below is),
-  subst (λ (x : List ℕ). IsFirstBad (pieces x) line) all bad,
+  subst (λ (x : List ℕ). IsFirstBad text.name.now (pieces x) line) all bad,
 )
   where
     there : (texts : List NamedText) (file : ℕ) → file < length texts → text ≡ get_or texts file text
@@ -90,20 +103,21 @@ one_more files i file below is =
     ∙ ap (λ (x : ReadFile). map tests_of (take i files) ++ tests_of x ∷ []) (sym is)
 
 pub file_checked : (order : CheckOrder) (policy : List ℕ) (file : ReadFile) (style : Style) (setup : Setup)
-    (name : List ℕ) (tests : List Test) (made : CallReplies) (entries : List Entry) (before after : List ℕ)
-    (tally : Tally) → style ≡ style_of order → name ≡ file.name.now → tests ≡ file.checks.tests.items
-    → IsSetFor order policy (length tests) setup
-    → IsChecked style setup name tests made entries before after tally
+    (name section : List ℕ) (tests : List Test) (made : CallReplies) (entries : List Entry) (before after : List ℕ)
+    (tally : Tally) → style ≡ style_of order → name ≡ file.name.now → section ≡ file.section.items
+    → tests ≡ file.checks.tests.items → IsSetFor order policy (length tests) setup
+    → IsChecked style setup name section tests made entries before after tally
     → IsFileChecked order policy (tests_of file) before after tally
-file_checked order policy file style setup name tests made entries before after tally d n t is checked =
+file_checked order policy file style setup name section tests made entries before after tally d n s t is checked =
     let items : List Test = file.checks.tests.items in (
       setup,
       made,
       entries,
       subst (λ (k : ℕ). IsSetFor order policy k setup) (ap length t) is,
-      subst (λ (x : Style). IsChecked x setup file.name.now items made entries before after tally) d
-          (subst (λ (x : List ℕ). IsChecked style setup x items made entries before after tally) n
-          (subst (λ (x : List Test). IsChecked style setup name x made entries before after tally) t checked)),
+      subst (λ (x : Style). IsChecked x setup file.name.now file.section.items items made entries before after tally) d
+          (subst (λ (x : List ℕ). IsChecked style setup x file.section.items items made entries before after tally) n
+          (subst (λ (x : List ℕ). IsChecked style setup name x items made entries before after tally) s
+          (subst (λ (x : List Test). IsChecked style setup name section x made entries before after tally) t checked))),
     )
 
 none : Tally
@@ -191,7 +205,8 @@ no_setup order policy text file failure named some is lacks = inl (
 
 -- what is concluded of what was read is a check of the texts
 pub concluded : (order : CheckOrder) (policy : List ℕ) (texts : List NamedText) (files all : List ReadFile)
-    (old new : Option (List ℕ)) (r : Result Checked Failure) → AllZip IsReadAs texts files → all ≡ files
+    (old new : Option (List ℕ)) (r : Result Checked Failure)
+    → AreTestsIn (map source_of texts) (map tests_of files) → all ≡ files
     → IfOk r (λ end. Writes old new (Concludes order policy (map tests_of all) end))
     → IfOk r (λ end. Writes old new (IsCheck order policy (map source_of texts) end))
 concluded order policy texts files all old new (Err failure) read same done = tt
@@ -199,7 +214,7 @@ concluded order policy texts files all old new (Ok end) read same done = (
   done.0,
   inr (
     map tests_of files,
-    all_read texts files read,
+    read,
     subst (λ (x : List ReadFile). Concludes order policy (map tests_of x) end done.0) same done.1,
   ),
   done.2,
@@ -207,7 +222,8 @@ concluded order policy texts files all old new (Ok end) read same done = (
 
 -- so is what was begun of it
 pub begun : (order : CheckOrder) (policy : List ℕ) (texts : List NamedText) (files all : List ReadFile)
-    (old new : Option (List ℕ)) (r : Result Checked Failure) → AllZip IsReadAs texts files → all ≡ files
+    (old new : Option (List ℕ)) (r : Result Checked Failure)
+    → AreTestsIn (map source_of texts) (map tests_of files) → all ≡ files
     → IfErr r (HasBegun (Concludes order policy (map tests_of all)) old new)
     → IfErr r (HasBegun (IsCheck order policy (map source_of texts)) old new)
 begun order policy texts files all old new (Ok end) read same h = tt
@@ -215,7 +231,7 @@ begun order policy texts files all old new (Err failure) read same (inl none) = 
 begun order policy texts files all old new (Err failure) read same (inr some) =
     let told = inr (
       map tests_of files,
-      all_read texts files read,
+      read,
       subst (λ (x : List ReadFile). Concludes order policy (map tests_of x) some.1 some.2) same some.3,
     ) in
     inr (some.0, some.1, some.2, told, some.4)

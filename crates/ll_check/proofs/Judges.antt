@@ -46,21 +46,21 @@ by_verdict true = refl
 by_verdict false = refl
 
 -- none is judged yet
-pub none_judged : (style : Style) (file : List ℕ) (out : List ℕ) (tally : Tally) → tally.passed ≡ 0
-    → tally.failed ≡ 0 → Judges style file [] [] out out tally
-none_judged style file out tally p f =
+pub none_judged : (style : Style) (file section : List ℕ) (out : List ℕ) (tally : Tally) → tally.passed ≡ 0
+    → tally.failed ≡ 0 → Judges style file section [] [] out out tally
+none_judged style file section out tally p f =
     ([], record { of_tests = refl; by_replies = refl; each = tt }, sym (append-nil out), p, f)
 
 -- one more is
-pub one_judged : (style : Style) (file : List ℕ) (tests : List Test) (replies : List Reply) (i : ℕ) (test : Test)
-    (reply : Reply) (passes : Bool) (before mid after : List ℕ) (sum more : Tally) → i < length tests
+pub one_judged : (style : Style) (file section : List ℕ) (tests : List Test) (replies : List Reply) (i : ℕ)
+    (test : Test) (reply : Reply) (passes : Bool) (before mid after : List ℕ) (sum more : Tally) → i < length tests
     → i < length replies → test ≡ get_or tests i test → reply ≡ get_or replies i reply
-    → Judges style file (take i tests) (take i replies) before mid sum
+    → Judges style file section (take i tests) (take i replies) before mid sum
     → IsTrue passes ↔ Satisfies test.wanted reply
-    → after ≡ mid ++ shown style file (judged test reply passes)
+    → after ≡ mid ++ shown style file section (judged test reply passes)
     → more.passed ≡ sum.passed + cond passes 1 0 → more.failed ≡ sum.failed + cond passes 0 1
-    → Judges style file (take (i + 1) tests) (take (i + 1) replies) before after more
-one_judged style file tests replies i test reply passes before mid after sum more t r here there done is out p f =
+    → Judges style file section (take (i + 1) tests) (take (i + 1) replies) before after more
+one_judged style file section tests replies i test reply passes before mid after sum more t r here there done is o p f =
     let it : Judged = judged test reply passes in
     let verdicts : List Judged = done.0 in (
       verdicts ++ it ∷ [],
@@ -73,9 +73,9 @@ one_judged style file tests replies i test reply passes before mid after sum mor
             ∙ ap (λ (x : Reply). take i replies ++ x ∷ []) there ∙ sym (take_more replies i reply r);
         each = all_more verdicts it done.1.each is;
       },
-      out ∙ ap (λ (x : List ℕ). x ++ shown style file it) done.2
-          ∙ append_assoc before (flat_map (shown style file) verdicts) (shown style file it)
-          ∙ ap (λ (x : List ℕ). before ++ x) (sym (flat_more (shown style file) verdicts it)),
+      o ∙ ap (λ (x : List ℕ). x ++ shown style file section it) done.2
+          ∙ append_assoc before (flat_map (shown style file section) verdicts) (shown style file section it)
+          ∙ ap (λ (x : List ℕ). before ++ x) (sym (flat_more (shown style file section) verdicts it)),
       p ∙ ap (λ n. n + cond passes 1 0) done.3 ∙ sym (count_more (λ (j : Judged). j.passes) verdicts it),
       f ∙ ap (λ n. n + cond passes 0 1) done.4 ∙ ap (λ n. failed verdicts + n) (sym (by_verdict passes))
           ∙ sym (count_more (λ (j : Judged). not j.passes) verdicts it),
@@ -108,21 +108,21 @@ pub counted : (p f p' f' i : ℕ) (b : Bool) → p' ≡ p + cond b 1 0 → f' �
 counted p f p' f' i true q g all = omega (arith, q, g, all)
 counted p f p' f' i false q g all = omega (arith, q, g, all)
 
-pub all_judged : (style : Style) (file : List ℕ) (tests : List Test) (replies : List Reply) (n : ℕ)
+pub all_judged : (style : Style) (file section : List ℕ) (tests : List Test) (replies : List Reply) (n : ℕ)
     (before after : List ℕ) (tally : Tally) → length tests ≤ n → length replies ≤ n
-    → Judges style file (take n tests) (take n replies) before after tally
-    → Judges style file tests replies before after tally
-all_judged style file tests replies n before after tally t r h =
-    subst (λ (x : List Test). Judges style file x replies before after tally) (take_all n tests t)
-    (subst (λ (x : List Reply). Judges style file (take n tests) x before after tally) (take_all n replies r) h)
+    → Judges style file section (take n tests) (take n replies) before after tally
+    → Judges style file section tests replies before after tally
+all_judged style file section tests replies n before after tally t r h =
+    subst (λ (x : List Test). Judges style file section x replies before after tally) (take_all n tests t)
+    (subst (λ (x : List Reply). Judges style file section (take n tests) x before after tally) (take_all n replies r) h)
 
-pub judged_by : (style : Style) (file : List ℕ) (tests : List Test) (made : CallReplies)
+pub judged_by : (style : Style) (file section : List ℕ) (tests : List Test) (made : CallReplies)
     (replies : Vec Reply Global) (slice : List Reply) (before after : List ℕ) (tally : Tally)
-    → made ≡ Answered replies → slice ≡ replies.items → Judges style file tests slice before after tally
-    → Tells style file tests made before after tally
-judged_by style file tests made replies slice before after tally is same h =
-    subst (λ (m : CallReplies). Tells style file tests m before after tally) (sym is)
-    (subst (λ (x : List Reply). Judges style file tests x before after tally) same h)
+    → made ≡ Answered replies → slice ≡ replies.items → Judges style file section tests slice before after tally
+    → Tells style file section tests made before after tally
+judged_by style file section tests made replies slice before after tally is same h =
+    subst (λ (m : CallReplies). Tells style file section tests m before after tally) (sym is)
+    (subst (λ (x : List Reply). Judges style file section tests x before after tally) same h)
 
 pub replies_there : (count : ℕ) (made : CallReplies) (replies : Vec Reply Global) (slice : List Reply)
     → made ≡ Answered replies → slice ≡ replies.items → HasReplies count made → count ≡ length slice

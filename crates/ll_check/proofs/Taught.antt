@@ -3,7 +3,7 @@ use Rattle.std.proofs.Common.{◌≡◌, ℕ, List, map, Option, Some, None, Res
 use Rattle.std.proofs.Common.{◌∙◌, Bool, false, true}
 use Rattle.std.specs.Prelude.{IfErr, IfNone, IfOk, IfSome}
 use Rattle.std.specs.Io.KnownBytes.{Appends}
-use Rattle.std.specs.List.{AllZip, list_all}
+use Rattle.std.specs.List.{list_all}
 use Rattle.ll_seq.specs.declared.reply.Entry.{Entry}
 use Rattle.ll_audit.specs.Saved.{opened}
 use Rattle.ll_learn.specs.declared.fault.Unlearned.{Unlearned}
@@ -20,13 +20,13 @@ use Rattle.ll_program.specs.declared.checked.Checked.TheVariants.{BadLine, Faile
 use Rattle.ll_program.specs.declared.failure.Failure.{Failure}
 use Rattle.ll_program.specs.declared.failure.Failure.TheVariants.{CommandLine, NoMemory, Output}
 use Rattle.ll_check.specs.declared.checks.NamedText.{NamedText}
-use Rattle.ll_check.specs.declared.checks.ReadFile.{ReadFile}
+use Rattle.ll_check.specs.declared.reading.ReadFile.{ReadFile}
 use Rattle.ll_check.specs.declared.reading.CheckFault.{CheckFault}
 use Rattle.ll_check.specs.declared.reading.CheckFault.TheVariants as faults
-use Rattle.ll_check.specs.Files.{HasBadLine, IsReadAs, Source, Tests, has_test, source_of, tests_of}
+use Rattle.ll_check.specs.Checks.{Tests, has_test, tests_of}
+use Rattle.ll_check.specs.Files.{AreTestsIn, HasBadLine, Source, source_of}
 use Rattle.ll_check.specs.Lessons.{Course, EndsLessons, FailsToLearn, HasWrongWord, IsHindered, IsProfile, IsTaughtBy}
 use Rattle.ll_check.specs.Lessons.{TeachNothing, is_of_lessons, lessons_of}
-use Rattle.ll_check.proofs.Files.{all_read}
 
 -- ---- what is learned
 
@@ -88,14 +88,14 @@ module _ (order : LearnOrder) (policy : List ℕ) (out : Option (List ℕ)) wher
       (bad told.1 told.2, refl)
   bad_told texts fault (Err failure) bad told wanting = inl (inr (inr wanting), refl)
 
-  module _ (texts : List NamedText) (files all : List ReadFile) (read : AllZip IsReadAs texts files)
-      (same : all ≡ files) where
+  module _ (texts : List NamedText) (files all : List ReadFile)
+      (read : AreTestsIn (map source_of texts) (map tests_of files)) (same : all ≡ files) where
     pub not_taught : (failure : Failure) → FailsToLearn order policy (map lessons_of (map tests_of all)) failure
         → EndsLessons order policy (map source_of texts) out out (Err failure)
     not_taught failure fails = inl (
       inr (inl (
         map tests_of files,
-        all_read texts files read,
+        read,
         subst (λ (x : List ReadFile). FailsToLearn order policy (map lessons_of (map tests_of x)) failure) same fails,
       )),
       refl,
@@ -105,7 +105,7 @@ module _ (order : LearnOrder) (policy : List ℕ) (out : Option (List ℕ)) wher
         → EndsLessons order policy (map source_of texts) out out (Ok Failed)
     hindered is = (
       map tests_of files,
-      all_read texts files read,
+      read,
       subst (λ (x : List ReadFile). IsHindered order policy (map tests_of x)) same is,
       refl,
     )
@@ -118,7 +118,7 @@ module _ (order : LearnOrder) (policy : List ℕ) (out : Option (List ℕ)) wher
         → Appends out out' text → EndsLessons order policy (map source_of texts) out out' (Ok Passed)
     written text out' is wrote = (
       map tests_of files,
-      all_read texts files read,
+      read,
       (text, subst (λ (x : List ReadFile). IsProfile order policy (map tests_of x) text) same is, wrote),
     )
 
@@ -127,7 +127,7 @@ module _ (order : LearnOrder) (policy : List ℕ) (out : Option (List ℕ)) wher
     cut_short text out' is wrote = inr (
       refl,
       map tests_of files,
-      all_read texts files read,
+      read,
       text,
       subst (λ (x : List ReadFile). IsProfile order policy (map tests_of x) text) same is,
       wrote,

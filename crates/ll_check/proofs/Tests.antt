@@ -1,15 +1,22 @@
 -- Where a test's command ends, and the tests of lines.
 use Rattle.std.proofs.Common.{◌≡◌, ◌∙◌, inl, inr, ℕ, ◌+◌, ◌<◌, ◌≤◌, List, [], ◌∷◌, ◌++◌, length, take, drop, append-nil}
-use Rattle.std.proofs.Common.{append_assoc, refl, sym, ap, subst, codes, arith, Bool, true, false, eqb}
+use Rattle.std.proofs.Common.{append_assoc, refl, sym, ap, subst, codes, arith, Bool, true, false, eqb, map}
+use Rattle.std.specs.Prelude.{◌||◌}
+use Rattle.std.specs.List.{list_any}
 use Rattle.std.proofs.lemmas.Bool.{eqb-true, eqb-false}
-use Rattle.std.proofs.lemmas.List.{append_cancel_left, length-append, take-append-drop}
+use Rattle.std.proofs.lemmas.List.{append_cancel_left, append_cancel_right, length-append, take-append-drop}
 use Rattle.std.proofs.Math.Seq.{take-append_seam, drop-append_seam}
 use Rattle.ll_rights.specs.declared.limits.TheConstants.{TREE_CLIENTS}
 use Rattle.ll_seq.specs.declared.call.Call.{Call}
 use Rattle.ll_session.specs.declared.client_call.ClientCall.{ClientCall}
 use Rattle.ll_wire.specs.Grammar.{SpellsCommand, call_tokens, client_tokens, line_of}
 use Rattle.ll_wire.specs.declared.read.TheConstants.{LINE_LIMIT}
-use Rattle.ll_check.specs.Checks.{AreTests, IsSilent, SaysNothing, SpellsAt, SpellsCall, SpellsTest, TakesLine, body_of}
+use Rattle.ll_check.specs.Checks.{AreRead, IsSilent, Reading, SaysNothing, SpellsAt, SpellsCall, SpellsSection}
+use Rattle.ll_check.specs.Checks.{SpellsTest}
+use Rattle.ll_check.specs.Checks.{TakesLine, body_of, has_section, is_name, is_section, tests_of, with_section}
+use Rattle.ll_check.specs.Checks.{with_test}
+use Rattle.ll_check.specs.declared.reading.ReadFile.{ReadFile}
+use Rattle.ll_check.specs.Possible.{CanCome}
 use Rattle.ll_check.specs.Wanted.{SpellsWanted}
 use Rattle.ll_check.specs.declared.wanted.Wanted.{Wanted}
 use Rattle.ll_check.specs.declared.reading.Test.{Test}
@@ -59,47 +66,22 @@ no_test body unlike none test (inr followed) =
 
 -- ---- lines, one after the other
 
--- a line adds to none what it adds to others
-added : (line : List ℕ) (number : ℕ) (front before after : List Test) → TakesLine line number before after
-    → TakesLine line number (front ++ before) (front ++ after)
-added line number front before after (inl silent) = inl (silent.0, ap (λ (x : List Test). front ++ x) silent.1)
-added line number front before after (inr test) = inr (
-  test.0,
-  test.1,
-  test.2,
-  ap (λ (x : List Test). front ++ x) test.3 ∙ sym (append_assoc front before (test.0 ∷ [])),
-)
-
--- what the line adds
-alone : (line : List ℕ) (number : ℕ) (before after : List Test) → TakesLine line number before after
-    → (more : List Test) × (after ≡ before ++ more) × TakesLine line number [] more
-alone line number before after (inl silent) = ([], silent.1 ∙ sym (append-nil before), inl (silent.0, refl))
-alone line number before after (inr test) =
-    (test.0 ∷ [], test.3, inr (test.0, test.1, test.2, refl))
-
 -- one line more
-pub one_line_more : (number : ℕ) (front : List (List ℕ)) (line : List ℕ) (at : ℕ) (before after : List Test)
-    → AreTests number front before → at ≡ number + length front → TakesLine line at before after
-    → AreTests number (front ++ line ∷ []) after
-one_line_more number [] line at before after told place is =
+pub one_line_more : (number : ℕ) (front : List (List ℕ)) (line : List ℕ) (at : ℕ) (start before after : Reading)
+    → AreRead number front start before → at ≡ number + length front → TakesLine line at before after
+    → AreRead number (front ++ line ∷ []) start after
+one_line_more number [] line at start before after told place is =
     let here : at ≡ number = omega (arith, place) in (
       after,
-      [],
-      sym (append-nil after),
-      subst (λ (n : ℕ). TakesLine line n [] after) here
-          (subst (λ (x : List Test). TakesLine line at x after) told is),
+      subst (λ (n : ℕ). TakesLine line n start after) here
+          (subst (λ (r : Reading). TakesLine line at r after) told is),
       refl,
     )
-one_line_more number (first ∷ front) line at before after told place is =
-    let more = alone line at before after is in (
-      told.0,
-      told.1 ++ more.0,
-      more.1 ∙ ap (λ (x : List Test). x ++ more.0) told.2 ∙ append_assoc told.0 told.1 more.0,
-      told.3,
-      one_line_more (number + 1) front line at told.1 (told.1 ++ more.0) told.4 (omega (arith, place))
-          (subst (λ (x : List Test). TakesLine line at x (told.1 ++ more.0)) (append-nil told.1)
-          (added line at told.1 [] more.0 more.2)),
-    )
+one_line_more number (first ∷ front) line at start before after told place is = (
+  told.0,
+  told.1,
+  one_line_more (number + 1) front line at told.0 before after told.2 (omega (arith, place)) is,
+)
 
 -- ---- what isn't found at a place
 
@@ -120,21 +102,70 @@ no_wanted_at body rest text place e f none test at =
 
 -- ---- what a line adds
 
-pub silent_taken : (line body : List ℕ) (number : ℕ) (tests : List Test) → body ≡ body_of line → IsSilent body
-    → TakesLine line number tests tests
-silent_taken line body number tests e is = inl (subst IsSilent e is, refl)
+pub silent_taken : (line body : List ℕ) (number : ℕ) (r : Reading) → body ≡ body_of line → IsSilent body
+    → TakesLine line number r r
+silent_taken line body number r e is = inl (subst IsSilent e is, refl)
 
-pub test_taken : (line body : List ℕ) (number : ℕ) (tests after : List Test) (test : Test) → body ≡ body_of line
-    → SpellsTest body test × (test.line ≡ number) → after ≡ tests ++ test ∷ [] → TakesLine line number tests after
-test_taken line body number tests after test e is same =
-    inr (test, subst (λ (b : List ℕ). SpellsTest b test) e is.0, is.1, same)
+pub test_taken : (line body : List ℕ) (number : ℕ) (before after : Reading) (test : Test) → body ≡ body_of line
+    → SpellsTest body test × (test.line ≡ number) → CanCome test.call.call test.wanted
+    → after ≡ with_test before test → TakesLine line number before after
+test_taken line body number before after test e is can same =
+    inr (inl (test, subst (λ (b : List ℕ). SpellsTest b test) e is.0, is.1, can, same))
 
-pub says_nothing : (line body : List ℕ) → body ≡ body_of line → (IsSilent body → ⊥)
-    → ((test : Test) → SpellsTest body test → ⊥) → SaysNothing line
-says_nothing line body e silent none = (
+pub section_taken : (line body name : List ℕ) (number : ℕ) (before after : Reading) → body ≡ body_of line
+    → SpellsSection body name → has_section before name ≡ false → after ≡ with_section before name
+    → TakesLine line number before after
+section_taken line body name number before after e is new same =
+    inr (inr (name, subst (λ (b : List ℕ). SpellsSection b name) e is, new, same))
+
+pub says_nothing : (line body : List ℕ) (r : Reading) → body ≡ body_of line → (IsSilent body → ⊥)
+    → ((test : Test) → SpellsTest body test → ⊥) → ((name : List ℕ) → SpellsSection body name → ⊥)
+    → SaysNothing line r
+says_nothing line body r e silent none other = (
   λ is. silent (subst IsSilent (sym e) is),
-  λ test is. none test (subst (λ (b : List ℕ). SpellsTest b test) (sym e) is),
+  inl (
+    λ test is. none test (subst (λ (b : List ℕ). SpellsTest b test) (sym e) is),
+    λ name is. other name (subst (λ (b : List ℕ). SpellsSection b name) (sym e) is),
+  ),
 )
+
+pub says_vain : (line body : List ℕ) (r : Reading) (test : Test) → body ≡ body_of line → (IsSilent body → ⊥)
+    → SpellsTest body test → (CanCome test.call.call test.wanted → ⊥) → SaysNothing line r
+says_vain line body r test e silent is vain = (
+  λ quiet. silent (subst IsSilent (sym e) quiet),
+  inr (inl (test, subst (λ (b : List ℕ). SpellsTest b test) e is, vain)),
+)
+
+pub says_twice : (line body name : List ℕ) (r : Reading) → body ≡ body_of line → (IsSilent body → ⊥)
+    → SpellsSection body name → has_section r name ≡ true → SaysNothing line r
+says_twice line body name r e silent is twice = (
+  λ quiet. silent (subst IsSilent (sym e) quiet),
+  inr (inr (name, subst (λ (b : List ℕ). SpellsSection b name) e is, twice)),
+)
+
+-- ---- sections
+
+pub have_all : (name : List ℕ) (files : List ReadFile)
+    → list_any (λ (file : ReadFile). is_section name (tests_of file)) files
+    ≡ list_any (is_section name) (map tests_of files)
+have_all name [] = refl
+have_all name (file ∷ files) = ap (λ b. is_section name (tests_of file) || b) (have_all name files)
+
+pub no_section : (body : List ℕ) → ((rest : List ℕ) → body ≡ codes "[" ++ rest → ⊥) → (name : List ℕ)
+    → SpellsSection body name → ⊥
+no_section body none name is = none (name ++ codes "]") is.1
+
+pub no_end : (body rest : List ℕ) → body ≡ codes "[" ++ rest
+    → ((name : List ℕ) → rest ≡ name ++ codes "]" → ⊥) → (name : List ℕ) → SpellsSection body name → ⊥
+no_end body rest cut none name is =
+    none name (append_cancel_left (codes "[") rest (name ++ codes "]") (sym cut ∙ is.1))
+
+pub no_name : (body rest found : List ℕ) → body ≡ codes "[" ++ rest → rest ≡ found ++ codes "]"
+    → is_name found ≡ false → (name : List ℕ) → SpellsSection body name → ⊥
+no_name body rest found cut end bad name is =
+    let same : name ++ codes "]" ≡ found ++ codes "]" =
+    append_cancel_left (codes "[") (name ++ codes "]") rest (sym is.1 ∙ cut) ∙ end in
+    absurd (cc (sym is.0 ∙ ap is_name (append_cancel_right name found (codes "]") same) ∙ bad))
 
 -- ---- calls
 

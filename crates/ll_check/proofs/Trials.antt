@@ -18,7 +18,7 @@ use Rattle.ll_program.specs.Options.{LearnOrder}
 use Rattle.ll_check.specs.declared.judging.Style.{Style}
 use Rattle.ll_check.specs.declared.judging.Tally.{Tally}
 use Rattle.ll_check.specs.declared.reading.Test.{Test}
-use Rattle.ll_check.specs.Files.{Tests}
+use Rattle.ll_check.specs.Checks.{Tests}
 use Rattle.ll_check.specs.Lessons.{AreRun, AreTried, HasTrial, IsTree, IsTried, PassesUnder, is_passed, ran_out}
 use Rattle.ll_check.specs.Report.{AreJudged, IsChecked, IsJudged, Judged, failed}
 use Rattle.ll_check.specs.Wanted.{Satisfies}
@@ -68,12 +68,12 @@ module _ (order : LearnOrder) (policy : List ℕ) (profile : LearnedProfile) whe
 
   -- a file that was checked under the profile was tried
   pub file_tried : (file : Tests) (tests : List Test) (calls : List Call) (style : Style) (setup : Setup)
-      (name : List ℕ) (made : CallReplies) (entries : List Entry) (before after : List ℕ) (tally : Tally)
+      (name section : List ℕ) (made : CallReplies) (entries : List Entry) (before after : List ℕ) (tally : Tally)
       → tests ≡ file.tests → calls ≡ calls_of profile → IsTree order policy calls (length tests) setup
-      → IsChecked style setup name tests made entries before after tally → ran_out made ≡ false
+      → IsChecked style setup name section tests made entries before after tally → ran_out made ≡ false
       → HasTrial order policy profile file (eqb tally.failed 0)
-  file_tried file tests calls style setup name (Answered replies) entries before after tally e same tree checked
-      enough = (
+  file_tried file tests calls style setup name section (Answered replies) entries before after tally e same tree
+      checked enough = (
         Ok checked.1.0,
         (
           replies,
@@ -88,8 +88,8 @@ module _ (order : LearnOrder) (policy : List ℕ) (profile : LearnedProfile) whe
         ),
         ap (λ (n : ℕ). eqb n 0) checked.1.4 ∙ none_fails checked.1.0,
       )
-  file_tried file tests calls style setup name (Refused reply) entries before after tally e same tree checked
-      enough = (
+  file_tried file tests calls style setup name section (Refused reply) entries before after tally e same tree
+      checked enough = (
         Err reply,
         subst (λ (x : List Test). AreRun order policy (calls_of profile) x (Refused reply)) e (record {
           setup = setup;

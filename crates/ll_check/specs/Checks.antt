@@ -1,11 +1,15 @@
--- Files of checks: the tests that their lines spell. own
+-- Files of checks: the sections and tests that their lines spell. own
 use Rattle.std.specs.Prelude.{◌≡◌, ℕ, ◌+◌, ◌==◌, ◌⊎◌, List, [], ◌∷◌, ◌++◌, length, slice_get, take, drop, Some, codes}
-use Rattle.std.specs.Prelude.{if◌then◌else◌}
-use Rattle.std.specs.List.{All, AllByRecursion}
+use Rattle.std.specs.Prelude.{◌&&◌, ◌||◌, Bool, true, false, if◌then◌else◌, is_some, map, nat_le, not}
+use Rattle.std.specs.List.{All, list_all, list_any}
+use Rattle.std.specs.Str.{bytes_eq}
 use Rattle.ll_session.specs.declared.client_call.ClientCall.{ClientCall}
 use Rattle.ll_wire.specs.Grammar.{SpellsCommand}
+use Rattle.ll_check.specs.declared.reading.ReadFile.{ReadFile}
+use Rattle.ll_check.specs.declared.reading.ReadLines.{ReadLines}
 use Rattle.ll_check.specs.declared.reading.Test.{Test}
 use Rattle.ll_check.specs.declared.wanted.Wanted.TheVariants.{Success}
+use Rattle.ll_check.specs.Possible.{CanCome}
 use Rattle.ll_check.specs.Wanted.{SpellsWanted}
 
 -- a line without its line feed (10), which only the last line of a file may lack
@@ -29,30 +33,109 @@ SpellsTest body test =
     ⊎ ((command text : List ℕ) × (body ≡ command ++ (codes " = " ++ text)) × SpellsCall command test.call
     × SpellsWanted text test.wanted)
 
--- the line is neither silent nor a test
-abbrev pub SaysNothing : List ℕ → Type 0
-SaysNothing line = (IsSilent (body_of line) → ⊥) × ((test : Test) → SpellsTest (body_of line) test → ⊥)
+-- whatever the tree, the command's reply isn't as expected
+abbrev pub IsVain : Test → Type 0
+IsVain test = CanCome test.call.call test.wanted → ⊥
 
--- the line with this number adds its test to the others, or is silent and adds none
-abbrev pub TakesLine : (line : List ℕ) → (number : ℕ) → (before after : List Test) → Type 0
+-- printed ASCII without brackets (91 and 93)
+abbrev pub is_of_name : ℕ → Bool
+is_of_name b = nat_le 32 b && nat_le b 126 && not (b == 91) && not (b == 93)
+
+-- a name has more than spaces
+abbrev pub is_name : List ℕ → Bool
+is_name name = list_all is_of_name name && list_any (λ b. not (b == 32)) name
+
+-- a section begins: `[NAME]`
+abbrev pub SpellsSection : List ℕ → List ℕ → Type 0
+SpellsSection body name = (is_name name ≡ true) × (body ≡ codes "[" ++ (name ++ codes "]"))
+
+-- ---- sections
+
+-- a section of a file: the file's name, its own name (nothing for what precedes the first line `[NAME]`), and its tests
+pub record Tests : Type 0 where
+  pub name : List ℕ
+  pub section : List ℕ
+  pub tests : List Test
+
+abbrev pub has_test : Tests → Bool
+has_test file = is_some (slice_get file.tests 0)
+
+-- the sections of the lines so far: those before the last, and the last
+pub record Reading : Type 0 where
+  pub done : List Tests
+  pub last : Tests
+
+abbrev pub at_start : (file : List ℕ) → Reading
+at_start file = record { done = []; last = record { name = file; section = []; tests = [] } }
+
+abbrev pub with_test : Reading → Test → Reading
+with_test r test = record r { last = record r.last { tests = r.last.tests ++ test ∷ [] } }
+
+-- without a name and a test
+abbrev pub is_blank : Tests → Bool
+is_blank file = not (is_some (slice_get file.section 0)) && not (has_test file)
+
+-- a new section. What precedes the first one is left out if it has no test
+abbrev pub with_section : Reading → (section : List ℕ) → Reading
+with_section r section = record {
+  done = if is_blank r.last then r.done else r.done ++ r.last ∷ [];
+  last = record { name = r.last.name; section = section; tests = [] };
+}
+
+abbrev pub all_of : Reading → List Tests
+all_of r = r.done ++ r.last ∷ []
+
+abbrev pub is_section : List ℕ → Tests → Bool
+is_section section file = bytes_eq file.section section
+
+-- a section so far has this name
+abbrev pub has_section : Reading → (section : List ℕ) → Bool
+has_section r section = list_any (is_section section) r.done || is_section section r.last
+
+-- ---- lines
+
+-- the line is neither silent nor a test nor the beginning of a section; or a vain test; or a section's name once more
+abbrev pub SaysNothing : List ℕ → (before : Reading) → Type 0
+SaysNothing line before =
+    (IsSilent (body_of line) → ⊥)
+    × ((((test : Test) → SpellsTest (body_of line) test → ⊥)
+    × ((section : List ℕ) → SpellsSection (body_of line) section → ⊥))
+    ⊎ ((test : Test) × SpellsTest (body_of line) test × IsVain test)
+    ⊎ ((section : List ℕ) × SpellsSection (body_of line) section × (has_section before section ≡ true)))
+
+-- the line with this number is silent; or adds its test, which may pass; or begins a section, whose name is new
+abbrev pub TakesLine : (line : List ℕ) → (number : ℕ) → (before after : Reading) → Type 0
 TakesLine line number before after =
     (IsSilent (body_of line) × (after ≡ before))
-    ⊎ ((test : Test) × SpellsTest (body_of line) test × (test.line ≡ number) × (after ≡ before ++ test ∷ []))
+    ⊎ ((test : Test) × SpellsTest (body_of line) test × (test.line ≡ number) × CanCome test.call.call test.wanted
+    × (after ≡ with_test before test))
+    ⊎ ((section : List ℕ) × SpellsSection (body_of line) section × (has_section before section ≡ false)
+    × (after ≡ with_section before section))
 
--- these are the tests of the lines, the first of which has this number
-abbrev pub AreTests : (number : ℕ) → (lines : List (List ℕ)) → List Test → Type 0
-AreTests number [] tests = tests ≡ []
-AreTests number (line ∷ lines) tests =
-    (first rest : List Test) × (tests ≡ first ++ rest) × TakesLine line number [] first
-    × AreTests (number + 1) lines rest
+-- the lines, the first of which has this number, are read one after the other
+abbrev pub AreRead : (number : ℕ) → (lines : List (List ℕ)) → (before after : Reading) → Type 0
+AreRead number [] before after = after ≡ before
+AreRead number (line ∷ lines) before after =
+    (mid : Reading) × TakesLine line number before mid × AreRead (number + 1) lines mid after
 
--- the number of the first line that is neither silent nor a test, from 1
-abbrev pub IsFirstBad : List (List ℕ) → ℕ → Type 0
-IsFirstBad lines k =
-    (front back : List (List ℕ)) × (line : List ℕ) × (tests : List Test) × (lines ≡ front ++ line ∷ back)
-    × AreTests 1 front tests × (k ≡ length front + 1) × SaysNothing line
+-- these are the sections of the file with this name and these lines
+abbrev pub AreSections : (file : List ℕ) → (lines : List (List ℕ)) → List Tests → Type 0
+AreSections file lines sections =
+    (end : Reading) × AreRead 1 lines (at_start file) end × (sections ≡ all_of end)
+
+-- the number of its first line that says nothing, from 1
+abbrev pub IsFirstBad : (file : List ℕ) → List (List ℕ) → ℕ → Type 0
+IsFirstBad file lines k =
+    (front back : List (List ℕ)) × (line : List ℕ) × (before : Reading) × (lines ≡ front ++ line ∷ back)
+    × AreRead 1 front (at_start file) before × (k ≡ length front + 1) × SaysNothing line before
 
 -- ---- parts, which no public contract cites
+
+abbrev pub tests_of : ReadFile → Tests
+tests_of file = record { name = file.name.now; section = file.section.items; tests = file.checks.tests.items }
+
+abbrev pub reading_of : ReadLines → Reading
+reading_of r = record { done = map tests_of r.done.items; last = tests_of r.last }
 
 -- the command ends here; after it come the sign and the expected reply
 abbrev pub SpellsAt : List ℕ → ℕ → Test → Type 0

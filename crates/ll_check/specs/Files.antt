@@ -1,7 +1,7 @@
 -- What a check of files does, what it writes, and how it ends. own
-use Rattle.std.specs.Prelude.{◌≡◌, ◌⊎◌, ℕ, ◌+◌, ◌==◌, ◌&&◌, Bool, true, List, [], ◌∷◌, ◌++◌, Some, None, length, map}
-use Rattle.std.specs.Prelude.{Option, false, codes, decimal, min, slice_get, is_some, if◌then◌else◌}
-use Rattle.std.specs.List.{AllZip, list_all}
+use Rattle.std.specs.Prelude.{◌≡◌, ◌⊎◌, ℕ, ◌+◌, ◌==◌, ◌&&◌, true, List, [], ◌∷◌, ◌++◌, Some, None, length, map}
+use Rattle.std.specs.Prelude.{Option, min, slice_get, is_some, if◌then◌else◌}
+use Rattle.std.specs.List.{list_all}
 use Rattle.std.specs.Option.{option_map_or}
 use Rattle.ll_rights.specs.declared.limits.TheConstants.{HISTORY_ENTRIES}
 use Rattle.ll_seq.specs.declared.reply.Entry.{Entry}
@@ -21,12 +21,10 @@ use Rattle.ll_program.specs.declared.failure.Failure.TheVariants.{NoMemory, Outp
 use Rattle.ll_program.specs.Failure.{failure_of}
 use Rattle.ll_program.specs.Policy.{IsSetup, Lacks}
 use Rattle.ll_check.specs.declared.checks.NamedText.{NamedText}
-use Rattle.ll_check.specs.declared.checks.ReadFile.{ReadFile}
 use Rattle.ll_check.specs.declared.judging.Style.{Style}
 use Rattle.ll_check.specs.declared.judging.Style.TheVariants.{Quiet, Usual, Verbose, Tap, Junit, Json}
 use Rattle.ll_check.specs.declared.judging.Tally.{Tally}
-use Rattle.ll_check.specs.declared.reading.Test.{Test}
-use Rattle.ll_check.specs.Checks.{AreTests, IsFirstBad}
+use Rattle.ll_check.specs.Checks.{AreSections, IsFirstBad, Tests, has_test}
 use Rattle.ll_check.specs.Report.{IsChecked}
 use Rattle.ll_check.specs.Styles.{head, tail}
 
@@ -40,23 +38,23 @@ pub record Source : Type 0 where
 abbrev pub source_of : NamedText → Source
 source_of file = record { name = file.name.now; text = file.text.items }
 
--- a file after it was read: its name, and its tests
-pub record Tests : Type 0 where
-  pub name : List ℕ
-  pub tests : List Test
+-- these are the sections of a file
+abbrev pub AreTestsOf : Source → List Tests → Type 0
+AreTestsOf source sections = AreSections source.name (pieces source.text) sections
 
-abbrev pub AreTestsOf : Source → Tests → Type 0
-AreTestsOf source file = (file.name ≡ source.name) × AreTests 1 (pieces source.text) file.tests
+-- these are the sections of the files, one file's after the other's
+abbrev pub AreTestsIn : List Source → List Tests → Type 0
+AreTestsIn [] files = files ≡ []
+AreTestsIn (source ∷ sources) files =
+    (own others : List Tests) × (files ≡ own ++ others) × AreTestsOf source own × AreTestsIn sources others
 
-abbrev pub has_test : Tests → Bool
-has_test file = is_some (slice_get file.tests 0)
-
--- a line of one of them is neither silent nor a test
+-- a line of one of them says nothing
 abbrev pub HasBadLine : List Source → Type 0
 HasBadLine sources =
-    (file line : ℕ) × (bad : Source) × (slice_get sources file ≡ Some bad) × IsFirstBad (pieces bad.text) line
+    (file line : ℕ) × (bad : Source) × (slice_get sources file ≡ Some bad)
+    × IsFirstBad bad.name (pieces bad.text) line
 
--- ---- the tree of a file
+-- ---- the tree of a section
 
 -- room in its history for each possible call: the loader's, the profile's, their two connects, and one for each test
 abbrev pub room_for : Setup → (tests : ℕ) → ℕ
@@ -64,11 +62,11 @@ room_for setup tests =
     min (option_map_or (λ calls. length calls.items) setup.loader 0 + length setup.profile.items + tests + 2)
     HISTORY_ENTRIES
 
--- the setup of a file's tree, if the policy's file has this text
+-- the setup of a section's tree, if the policy's file has this text
 abbrev pub IsSetFor : CheckOrder → (policy : List ℕ) → (tests : ℕ) → Setup → Type 0
 IsSetFor order policy tests setup = IsSetup (checked_tree order (room_for setup tests)) policy setup
 
--- ---- how files are checked
+-- ---- how sections are checked
 
 -- the style of this form; a text's is the given one
 abbrev pub styled : Option ReportForm → (text : Style) → Style
@@ -80,13 +78,13 @@ styled _ text = text
 abbrev pub style_of : CheckOrder → Style
 style_of order = styled order.form (if order.quiet then Quiet else (if order.verbose then Verbose else Usual))
 
--- a file's tests are made in a tree of its own, with this setup, and are reported and counted
+-- a section's tests are made in a tree of its own, with this setup, and are reported and counted
 abbrev pub IsFileChecked : CheckOrder → (policy : List ℕ) → Tests → (before after : List ℕ) → Tally → Type 0
 IsFileChecked order policy file before after tally =
     (setup : Setup) × (made : CallReplies) × (entries : List Entry) × IsSetFor order policy (length file.tests) setup
-    × IsChecked (style_of order) setup file.name file.tests made entries before after tally
+    × IsChecked (style_of order) setup file.name file.section file.tests made entries before after tally
 
--- the files are checked one after the other, each report follows the one before it, and this is the sum
+-- the sections are checked one after the other, each report follows the one before it, and this is the sum
 abbrev pub AreChecked : CheckOrder → (policy : List ℕ) → List Tests → (before after : List ℕ) → (sum : Tally) → Type 0
 AreChecked order policy [] before after sum = (after ≡ before) × (sum.passed ≡ 0) × (sum.failed ≡ 0)
 AreChecked order policy (file ∷ files) before after sum =
@@ -94,25 +92,24 @@ AreChecked order policy (file ∷ files) before after sum =
     × AreChecked order policy files mid after rest
     × (sum.passed ≡ tally.passed + rest.passed) × (sum.failed ≡ tally.failed + rest.failed)
 
--- passed exactly if each file has a test and none fails
+-- passed exactly if each section has a test and none fails
 abbrev pub end_of : List Tests → (sum : Tally) → Checked
 end_of files sum = if list_all has_test files && (sum.failed == 0) then Passed else Failed
 
--- the files are checked, the reports are written with the sum, and this is the result
+-- the sections are checked, the reports are written with the sum, and this is the result
 abbrev pub Concludes : CheckOrder → (policy : List ℕ) → List Tests → Checked → (written : List ℕ) → Type 0
 Concludes order policy files end written =
     (report : List ℕ) × (sum : Tally) × AreChecked order policy files [] report sum
     × (written ≡ head (style_of order) sum ++ report ++ tail (style_of order) sum) × (end ≡ end_of files sum)
 
--- A check of these files, if the policy's file has this text. If a line is neither silent nor a test, nothing is run or
--- written
+-- A check of these files, if the policy's file has this text. If a line says nothing, nothing is run or written
 abbrev pub IsCheck : CheckOrder → (policy : List ℕ) → List Source → Checked → (written : List ℕ) → Type 0
 IsCheck order policy sources end written =
     (HasBadLine sources × (end ≡ BadLine) × (written ≡ []))
-    ⊎ ((files : List Tests) × AllZip AreTestsOf sources files × Concludes order policy files end written)
+    ⊎ ((files : List Tests) × AreTestsIn sources files × Concludes order policy files end written)
 
--- Why files aren't checked to the end: a policy is named, and gives no setup; a fault ends the run of a file's tests;
--- the report can't be written; or NoMemory
+-- Why files aren't checked to the end: a policy is named, and gives no setup; a fault ends the run of a section's
+-- tests; the report can't be written; or NoMemory
 abbrev pub MayFail : CheckOrder → (policy : List ℕ) → Failure → Type 0
 MayFail order policy failure =
     ((is_some order.policy ≡ true) × Lacks (checked_tree order HISTORY_ENTRIES) policy failure)
@@ -126,12 +123,3 @@ HasBegun IsReport out out' failure =
     (out' ≡ out)
     ⊎ ((failure ≡ Output) × (end : Checked) × (written : List ℕ) × IsReport end written
     × AppendsFront out out' written)
-
--- ---- parts, which no public contract cites
-
-abbrev pub tests_of : ReadFile → Tests
-tests_of file = record { name = file.name.now; tests = file.checks.tests.items }
-
--- the file after it was read
-abbrev pub IsReadAs : NamedText → ReadFile → Type 0
-IsReadAs text file = AreTestsOf (source_of text) (tests_of file)

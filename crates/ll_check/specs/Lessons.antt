@@ -40,7 +40,8 @@ use Rattle.ll_program.specs.declared.failure.Failure.{Failure}
 use Rattle.ll_program.specs.declared.failure.Failure.TheVariants.{CommandLine, File, NoMemory, Opening, Output}
 use Rattle.ll_check.specs.declared.lessons.FileLessons.{FileLessons}
 use Rattle.ll_check.specs.declared.reading.Test.{Test}
-use Rattle.ll_check.specs.Files.{AreTestsOf, HasBadLine, Source, Tests, has_test, room_for}
+use Rattle.ll_check.specs.Checks.{Tests, has_test}
+use Rattle.ll_check.specs.Files.{AreTestsIn, HasBadLine, Source, room_for}
 use Rattle.ll_check.specs.Report.{AreJudged, Judged, heading}
 use Rattle.ll_check.specs.Wanted.{Satisfies, is_allowed, wants_denial}
 
@@ -72,10 +73,14 @@ pub record AreMade (order : LearnOrder) (policy : List ℕ) (calls : List Call) 
 
 -- ---- Lessons
 
--- the tests of a file that don't expect a denial
+-- the tests of a section that don't expect a denial
 abbrev pub lessons_of : Tests → Tests
 lessons_of file =
-    record { name = file.name; tests = filter (λ test. not (wants_denial test.wanted)) file.tests }
+    record {
+      name = file.name;
+      section = file.section;
+      tests = filter (λ test. not (wants_denial test.wanted)) file.tests;
+    }
 
 -- the reply is as expected, and the call is in the history
 abbrev pub IsLearnedFrom : Test → Reply → Type 0
@@ -256,28 +261,29 @@ FailsToLearn order policy lessons failure =
 abbrev pub IsReason : LearnOrder → (policy : List ℕ) → List Source → Failure → Type 0
 IsReason order policy sources failure =
     ((failure ≡ CommandLine) × HasWrongWord order)
-    ⊎ ((files : List Tests) × AllZip AreTestsOf sources files
+    ⊎ ((files : List Tests) × AreTestsIn sources files
     × FailsToLearn order policy (map lessons_of files) failure)
     ⊎ (failure ≡ NoMemory)
 
 -- A profile is written. Otherwise nothing is, and this says why; or a prefix of it if the output fails
 abbrev pub EndsLessons : LearnOrder → (policy : List ℕ) → List Source → (out out' : Option (List ℕ))
     → Result Checked Failure → Type 0
-EndsLessons order policy sources out out' (Ok Passed) = (files : List Tests) × AllZip AreTestsOf sources files
+EndsLessons order policy sources out out' (Ok Passed) = (files : List Tests) × AreTestsIn sources files
     × Writes out out' (IsProfile order policy files)
 EndsLessons order policy sources out out' (Ok Failed) =
-    (files : List Tests) × AllZip AreTestsOf sources files × IsHindered order policy files × (out' ≡ out)
+    (files : List Tests) × AreTestsIn sources files × IsHindered order policy files × (out' ≡ out)
 EndsLessons order policy sources out out' (Ok BadLine) = HasBadLine sources × (out' ≡ out)
 EndsLessons order policy sources out out' (Err failure) =
     (IsReason order policy sources failure × (out' ≡ out))
-    ⊎ ((failure ≡ Output) × (files : List Tests) × AllZip AreTestsOf sources files
+    ⊎ ((failure ≡ Output) × (files : List Tests) × AreTestsIn sources files
     × (text : List ℕ) × IsProfile order policy files text × AppendsFront out out' text)
 
 -- ---- Parts, which no public contract cites
 
 -- a file's lessons, as they are picked
 abbrev pub picked : FileLessons → Tests
-picked file = record { name = file.name.now; tests = map (λ t. t.now) file.tests.items }
+picked file =
+    record { name = file.name.now; section = file.section.now; tests = map (λ t. t.now) file.tests.items }
 
 -- a file is tried, and this says whether all its tests pass
 abbrev pub HasTrial : LearnOrder → (policy : List ℕ) → LearnedProfile → Tests → (passes : Bool) → Type 0

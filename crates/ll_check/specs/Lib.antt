@@ -2,6 +2,7 @@ pub mod Checks
 pub mod Ends
 pub mod Files
 pub mod Lessons
+pub mod Possible
 pub mod Replied
 pub mod Report
 pub mod Styles

@@ -1,6 +1,6 @@
--- What the check of a file writes, and how its tests are judged. own
+-- What the check of a section writes, and how its tests are judged. own
 use Rattle.std.specs.Prelude.{◌≡◌, ◌↔◌, IsTrue, ℕ, Bool, true, false, not, List, [], ◌∷◌, ◌++◌, codes, decimal, map}
-use Rattle.std.specs.Prelude.{if◌then◌else◌}
+use Rattle.std.specs.Prelude.{◌==◌, if◌then◌else◌, length}
 use Rattle.std.specs.List.{AllByRecursion, count_by, flat_map}
 use Rattle.ll_seq.specs.declared.reply.Entry.{Entry}
 use Rattle.ll_seq.specs.declared.reply.Reply.{Reply}
@@ -53,19 +53,30 @@ failed verdicts = count_by (λ it. not it.passes) verdicts
 abbrev pub heading : List ℕ → Test → List ℕ
 heading file test = file ++ codes ":" ++ decimal test.line ++ codes ": " ++ call_line test.call
 
+-- the name of its section, if that has one
+abbrev pub label : (section : List ℕ) → List ℕ
+label section = if length section == 0 then [] else codes "[" ++ section ++ codes "] "
+
+-- the same with the name of its section
+abbrev pub titled : (file section : List ℕ) → Test → List ℕ
+titled file section test =
+    file ++ codes ":" ++ decimal test.line ++ codes ": " ++ label section ++ call_line test.call
+
 abbrev pub expected : Wanted → List ℕ
 expected wanted = codes "expected " ++ (wanted_text wanted ++ codes "\n")
 
 -- a test as lines of text
-abbrev pub plain : List ℕ → Judged → List ℕ
-plain file it =
-    heading file it.test ++ (if it.passes then [] else expected it.test.wanted) ++ (codes "got " ++ reply_line it.reply)
+abbrev pub plain : (file section : List ℕ) → Judged → List ℕ
+plain file section it =
+    titled file section it.test ++ (if it.passes then [] else expected it.test.wanted)
+    ++ (codes "got " ++ reply_line it.reply)
 
 -- a test as texts, without line feeds; the file's name is printed
-abbrev pub texts : List ℕ → Judged → Texts
-texts file it =
+abbrev pub texts : (file section : List ℕ) → Judged → Texts
+texts file section it =
     record {
       file = escaped file;
+      section = section;
       line = decimal it.test.line;
       command = body_of (call_line it.test.call);
       wanted = body_of (wanted_text it.test.wanted ++ codes "\n");
@@ -73,32 +84,34 @@ texts file it =
       passes = it.passes;
     }
 
-abbrev pub shown : Style → List ℕ → Judged → List ℕ
-shown Quiet file it = []
-shown Usual file it = if it.passes then [] else plain file it
-shown Verbose file it = plain file it
-shown Tap file it = tap_test (texts file it)
-shown Junit file it = junit_test (texts file it)
-shown Json file it = json_test (texts file it)
+abbrev pub shown : Style → (file section : List ℕ) → Judged → List ℕ
+shown Quiet file section it = []
+shown Usual file section it = if it.passes then [] else plain file section it
+shown Verbose file section it = plain file section it
+shown Tap file section it = tap_test (texts file section it)
+shown Junit file section it = junit_test (texts file section it)
+shown Json file section it = json_test (texts file section it)
 
--- ---- a whole file
+-- ---- a whole section
 
 -- the tests are judged by their replies, the report on them is appended, and this many pass and fail
-abbrev pub Judges : Style → (file : List ℕ) → List Test → List Reply → (before after : List ℕ) → Tally → Type 0
-Judges style file tests replies before after tally =
+abbrev pub Judges : Style → (file section : List ℕ) → List Test → List Reply → (before after : List ℕ) → Tally
+    → Type 0
+Judges style file section tests replies before after tally =
     (verdicts : List Judged) × AreJudged tests replies verdicts
-    × (after ≡ before ++ flat_map (shown style file) verdicts)
+    × (after ≡ before ++ flat_map (shown style file section) verdicts)
     × (tally.passed ≡ passed verdicts) × (tally.failed ≡ failed verdicts)
 
 -- The report on tests after their calls were made. A refused profile counts as one failed test; no definition says how
 -- that is reported
-abbrev pub Tells : Style → (file : List ℕ) → List Test → CallReplies → (before after : List ℕ) → Tally → Type 0
-Tells style file tests (Answered replies) before after tally =
-    Judges style file tests replies.items before after tally
-Tells style file tests (Refused reply) before after tally = (tally.passed ≡ 0) × (tally.failed ≡ 1)
+abbrev pub Tells : Style → (file section : List ℕ) → List Test → CallReplies → (before after : List ℕ) → Tally
+    → Type 0
+Tells style file section tests (Answered replies) before after tally =
+    Judges style file section tests replies.items before after tally
+Tells style file section tests (Refused reply) before after tally = (tally.passed ≡ 0) × (tally.failed ≡ 1)
 
 -- the tests' calls are made with this setup, which leaves these entries, and the tests are reported and counted
-abbrev pub IsChecked : Style → Setup → (file : List ℕ) → List Test → CallReplies → List Entry
+abbrev pub IsChecked : Style → Setup → (file section : List ℕ) → List Test → CallReplies → List Entry
     → (before after : List ℕ) → Tally → Type 0
-IsChecked style setup file tests made entries before after tally =
-    Makes setup (map (λ test. test.call) tests) made entries × Tells style file tests made before after tally
+IsChecked style setup file section tests made entries before after tally =
+    Makes setup (map (λ test. test.call) tests) made entries × Tells style file section tests made before after tally

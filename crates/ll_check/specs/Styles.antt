@@ -1,5 +1,5 @@
 -- How a test is written for other programs. TAP 14; JUnit's XML as CI systems read it; JSON, RFC 8259
-use Rattle.std.specs.Prelude.{ℕ, ◌+◌, ◌==◌, Bool, List, [], ◌∷◌, ◌++◌, codes, decimal, if◌then◌else◌}
+use Rattle.std.specs.Prelude.{ℕ, ◌+◌, ◌==◌, Bool, List, [], ◌∷◌, ◌++◌, codes, decimal, if◌then◌else◌, length}
 use Rattle.std.specs.List.{flat_map}
 use Rattle.ll_check.specs.declared.judging.Style.{Style}
 use Rattle.ll_check.specs.declared.judging.Style.TheVariants.{Quiet, Usual, Verbose, Tap, Junit, Json}
@@ -8,10 +8,11 @@ use Rattle.ll_check.specs.declared.styles.Syntax.{Syntax}
 use Rattle.ll_check.specs.declared.styles.Syntax.TheVariants as syntax
 use Rattle.ll_check.specs.declared.styles.TestTexts.{TestTexts}
 
--- A test that was made, as texts of printed characters: its file's name, its line there, its command, the expected
--- reply, and the one that came
+-- A test that was made, as texts of printed characters: the names of its file and its section (nothing if that has
+-- none), its line there, its command, the expected reply, and the one that came
 pub record Texts : Type 0 where
   pub file : List ℕ
+  pub section : List ℕ
   pub line : List ℕ
   pub command : List ℕ
   pub wanted : List ℕ
@@ -59,10 +60,16 @@ tap_reason it =
 abbrev pub tap_verdict : (passes : Bool) → List ℕ
 tap_verdict passes = if passes then codes "ok - " else codes "not ok - "
 
+abbrev pub tap_section : (section : List ℕ) → List ℕ
+tap_section section = if length section == 0 then [] else codes "[" ++ (text_in syntax.Tap section ++ codes "] ")
+
+abbrev pub tap_end : Texts → List ℕ
+tap_end it = text_in syntax.Tap it.command ++ (codes "\n" ++ tap_reason it)
+
 abbrev pub tap_test : Texts → List ℕ
 tap_test it =
     tap_verdict it.passes ++ (text_in syntax.Tap it.file
-    ++ (codes ":" ++ (it.line ++ (codes ": " ++ (text_in syntax.Tap it.command ++ (codes "\n" ++ tap_reason it))))))
+    ++ (codes ":" ++ (it.line ++ (codes ": " ++ (tap_section it.section ++ tap_end it)))))
 
 abbrev pub junit_got : Texts → List ℕ
 junit_got it = text_in syntax.Xml it.got ++ codes "\"/></testcase>\n"
@@ -72,10 +79,13 @@ junit_end it =
     if it.passes then codes "\"/>\n"
     else codes "\"><failure message=\"expected " ++ (text_in syntax.Xml it.wanted ++ (codes ", got " ++ junit_got it))
 
+abbrev pub junit_section : (section : List ℕ) → List ℕ
+junit_section section = if length section == 0 then [] else codes " [" ++ (text_in syntax.Xml section ++ codes "]")
+
 abbrev pub junit_test : Texts → List ℕ
 junit_test it =
-    codes "<testcase classname=\"" ++ (text_in syntax.Xml it.file
-    ++ (codes "\" name=\"" ++ (it.line ++ (codes ": " ++ (text_in syntax.Xml it.command ++ junit_end it)))))
+    codes "<testcase classname=\"" ++ (text_in syntax.Xml it.file ++ (junit_section it.section
+    ++ (codes "\" name=\"" ++ (it.line ++ (codes ": " ++ (text_in syntax.Xml it.command ++ junit_end it))))))
 
 abbrev pub json_verdict : (passes : Bool) → List ℕ
 json_verdict passes = if passes then codes "\", \"passes\": true}\n" else codes "\", \"passes\": false}\n"
@@ -85,12 +95,16 @@ json_end it =
     codes "\", \"expected\": \"" ++ (text_in syntax.Json it.wanted
     ++ (codes "\", \"got\": \"" ++ (text_in syntax.Json it.got ++ json_verdict it.passes)))
 
+abbrev pub json_section : (section : List ℕ) → List ℕ
+json_section section =
+    if length section == 0 then [] else codes "\", \"section\": \"" ++ text_in syntax.Json section
+
 -- an object on a line of its own
 abbrev pub json_test : Texts → List ℕ
 json_test it =
-    codes "{\"file\": \"" ++ (text_in syntax.Json it.file
+    codes "{\"file\": \"" ++ (text_in syntax.Json it.file ++ (json_section it.section
     ++ (codes "\", \"line\": " ++ (it.line ++ (codes ", \"command\": \"" ++ (text_in syntax.Json it.command
-    ++ json_end it)))))
+    ++ json_end it))))))
 
 abbrev pub test_in : Syntax → Texts → List ℕ
 test_in syntax.Tap it = tap_test it
@@ -131,6 +145,7 @@ abbrev pub texts_of : TestTexts → Texts
 texts_of it =
     record {
       file = it.file.now;
+      section = it.section.now;
       line = it.line.now;
       command = it.command.now;
       wanted = it.wanted.now;

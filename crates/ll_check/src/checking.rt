@@ -1,4 +1,4 @@
-//! The check of one file.
+//! The check of one section.
 
 ghost use Rattle.std.specs.Prelude.{◌≡◌, length, All, IfOk, IfErr};
 ghost use Rattle.ll_session.specs.Run.{MayEnd};
@@ -40,12 +40,13 @@ impl Reporter<'_> {
             return Ok(());
         }
         let Some(syntax) = syntax_of(self.style) else {
-            return push_refusal(out, self.alloc, self.file, entries, refusal);
+            return push_refusal(out, self, entries, refusal);
         };
         let line = refusal_text(self.alloc, entries, refusal)?;
         let file = escaped(self.alloc, self.file)?;
         let texts = TestTexts {
             file: file.as_bytes(),
+            section: self.section,
             line: b"0",
             command: b"profile",
             wanted: b"accepted",
@@ -65,7 +66,8 @@ impl Reporter<'_> {
     ) -> Result<Tally, AllocError>
         requires entries { All IsEntry history.now.entries }
         requires replies { HasReplies (length tests.now) made.now }
-        ensures { IfOk result (Tells self.now.style self.now.file.now tests.now made.now out.old.items out.new.items) }
+        ensures { IfOk result (Tells self.now.style self.now.file.now self.now.section.now tests.now made.now
+            out.old.items out.new.items) }
     {
         match made {
             CallReplies::Answered(replies) => self.judge(out, tests, replies.as_slice()),
@@ -80,17 +82,17 @@ impl Reporter<'_> {
     }
 }
 
-/// The result of a file's check.
+/// The result of a section's check.
 #[derive(Drop)]
 pub struct CheckedFile {
     pub tally: Tally,
     pub made: CallReplies,
-    /// The history of the file's tree.
+    /// The history of the section's tree.
     pub history: History,
 }
 
-/// Makes a file's tests in a tree of its own, judges the replies, and appends the report. Errors: a fault of the run,
-/// or memory ran out.
+/// Makes a section's tests in a tree of its own, judges the replies, and appends the report. Errors: a fault of the
+/// run, or memory ran out.
 pub fn check_file<R: Wait>(
     rt: &R,
     out: &mut Vec<u8>,
@@ -98,8 +100,9 @@ pub fn check_file<R: Wait>(
     setup: Setup,
     tests: &[Test],
 ) -> Result<CheckedFile, RunFault>
-    ensures checked { IfOk result (λ checked. IsChecked reporter.now.style setup reporter.now.file.now tests.now
-        checked.made checked.history.entries out.old.items out.new.items checked.tally) }
+    ensures checked { IfOk result (λ checked. IsChecked reporter.now.style setup reporter.now.file.now
+        reporter.now.section.now tests.now checked.made checked.history.entries out.old.items out.new.items
+        checked.tally) }
     ensures fault { IfErr result (λ fault. MayEnd setup fault) }
 {
     let (made, history) = make(rt, reporter.alloc, setup, tests)?;

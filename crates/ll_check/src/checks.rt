@@ -3,18 +3,18 @@
 ghost use Rattle.std.specs.Prelude.{◌≡◌, ◌≤◌, ◌+◌, ◌++◌, ℕ, IfErr, IfOk, OnOk, length, map};
 ghost use Rattle.std.specs.Option.{option_map_or};
 ghost use Rattle.ll_rights.specs.declared.limits.TheConstants.{HISTORY_ENTRIES};
-ghost use Rattle.std.specs.List.{AllZip, list_all};
+ghost use Rattle.std.specs.List.{list_all};
 ghost use Rattle.ll_wire.specs.Transcript.{Writes};
 ghost use Rattle.ll_program.specs.Options.{checked_in};
 ghost use Rattle.ll_program.specs.declared.checked.Checked as checked;
-ghost use Rattle.ll_check.specs.Files.{AreChecked, Concludes, HasBadLine, IsCheck, IsFileChecked, IsReadAs, IsSetFor};
+ghost use Rattle.ll_check.specs.Checks.{has_test, tests_of};
+ghost use Rattle.ll_check.specs.Files.{AreChecked, AreTestsIn, Concludes, HasBadLine, IsCheck, IsFileChecked, IsSetFor};
 ghost use Rattle.ll_check.specs.Files.{HasBegun, MayFail};
-ghost use Rattle.ll_check.specs.Files.{end_of, has_test, room_for, source_of, style_of, tests_of};
+ghost use Rattle.ll_check.specs.Files.{end_of, room_for, source_of, style_of};
 ghost use Rattle.ll_check.specs.Styles.{head, tail};
 
-use crate::{
-    CheckFault, Checks, LinesOf, Notes, Reporter, Style, Tally, check_file, explain, tell_denied,
-};
+use crate::reading::{ReadFile, read_sections};
+use crate::{CheckFault, LinesOf, Notes, Reporter, Style, Tally, check_file, explain, tell_denied};
 use ll_program::{CheckOptions, Checked, Failure, ReportForm, header_of, setup_of, write_bytes};
 use ll_rights::limits::HISTORY_ENTRIES;
 use ll_session::Setup;
@@ -37,21 +37,6 @@ pub struct CheckInput<'a, 'w> {
     pub files: &'a [NamedText<'w>],
 }
 
-/// A file after it was read: its name, and its tests.
-#[derive(Drop)]
-pub(crate) struct ReadFile<'w> {
-    pub name: &'w str,
-    pub checks: Checks,
-}
-
-impl ReadFile<'_> {
-    fn has_test(&self) -> bool
-        ensures { result ≡ has_test (tests_of self.now) }
-    {
-        !self.checks.tests.is_empty()
-    }
-}
-
 /// Why a file can't be read, and its index, from 0.
 #[derive(Clone, Copy)]
 pub(crate) struct BadFile {
@@ -59,27 +44,22 @@ pub(crate) struct BadFile {
     fault: CheckFault,
 }
 
-/// Reads all files, up to the first that can't be read.
+/// Reads all files, up to the first that can't be read. Returns the sections of all.
 pub(crate) fn read_all<'w>(
     alloc: Global,
     texts: &[NamedText<'w>],
 ) -> Result<Vec<ReadFile<'w>>, BadFile>
-    ensures read { IfOk result (λ files. AllZip IsReadAs texts.now files.items) }
+    ensures read { IfOk result (λ files. AreTestsIn (map source_of texts.now) (map tests_of files.items)) }
     ensures bad { IfErr result (λ bad. (line : ℕ) → bad.fault ≡ CheckFault.BadLine line
         → HasBadLine (map source_of texts.now)) }
 {
     let mut files = Vec::new(alloc);
     for (file, text) in texts.iter().enumerate() {
-        let checks = match Checks::read(alloc, text.text.as_slice()) {
-            Ok(checks) => checks,
+        let mut sections = match read_sections(alloc, text.name, text.text.as_slice()) {
+            Ok(sections) => sections,
             Err(fault) => return Err(BadFile { file, fault }),
         };
-        let read = ReadFile {
-            name: text.name,
-            checks,
-        };
-        if let Err(refused) = files.push(read) {
-            drop(refused);
+        if let Err(_) = files.append(&mut sections) {
             let fault = CheckFault::NoMemory;
             return Err(BadFile { file, fault });
         }
@@ -152,7 +132,7 @@ fn style_of(options: &CheckOptions) -> Style
     }
 }
 
-// Checks a file, and appends its report.
+// Checks a section, and appends its report.
 fn check_one<R: Wait, N: Notes>(
     rt: &R,
     alloc: Global,
@@ -172,6 +152,7 @@ fn check_one<R: Wait, N: Notes>(
         alloc,
         style: style_of(input.options),
         file: file.name.as_bytes(),
+        section: file.section.as_slice(),
     };
     let checked = match check_file(rt, report, &reporter, setup, tests) {
         Ok(checked) => checked,
@@ -211,7 +192,7 @@ impl Tally {
     }
 }
 
-// Checks all files, one after the other.
+// Checks all sections, one after the other.
 fn check_all<R: Wait, N: Notes>(
     rt: &R,
     alloc: Global,
@@ -238,18 +219,21 @@ fn are_tested(files: &[ReadFile<'_>]) -> bool
     files.iter().all(|file| file.has_test())
 }
 
-/// Reports whether each file has a test.
+/// Reports whether each section has a test.
 pub(crate) fn have_tests(files: &[ReadFile<'_>]) -> bool
     ensures { result ≡ list_all has_test (map tests_of files.now) }
 {
     are_tested(files)
 }
 
-/// Prints which files have no test.
+/// Prints which sections have no test.
 pub(crate) fn tell_untested<E: Write>(files: &[ReadFile<'_>], err: &mut E) {
     for file in files {
         if !file.has_test() {
-            let _ = writeln!(err, "no test in {}", file.name);
+            let _ = match str::from_utf8(file.section.as_slice()) {
+                Ok("") | Err(_) => writeln!(err, "no test in {}", file.name),
+                Ok(section) => writeln!(err, "no test in [{section}] of {}", file.name),
+            };
         }
     }
 }
@@ -291,7 +275,7 @@ fn report_around(
     Ok(report)
 }
 
-// Checks the files that were read, and writes the report.
+// Checks the sections that were read, and writes the report.
 fn conclude<R: Wait, W: Write, N: Notes>(
     rt: &R,
     alloc: Global,
@@ -355,11 +339,11 @@ pub(crate) fn tell_bad<E: Write>(
     }
 }
 
-/// Checks files, each on a tree of its own, and writes the report. All files are read before anything is run. If a line
-/// is neither silent nor a test, that is printed to `err`, and nothing else is done. A file without a test is printed
-/// there too, and a policy without a chosen profile. If notes are wanted, they get each test that is shown and fails by
-/// a denial. Errors: the policy's text gives no setup, a call of the policy's loader is refused, `out` fails, or memory
-/// ran out.
+/// Checks files, each section of each on a tree of its own, and writes the report. All files are read before anything
+/// is run. If a line says nothing, that is printed to `err`, and nothing else is done. A section without a test is
+/// printed there too, and a policy without a chosen profile. If notes are wanted, they get each test that is shown and
+/// fails by a denial, or because none came. Errors: the policy's text gives no setup, a call of the policy's loader is
+/// refused, `out` fails, or memory ran out.
 pub fn check<R: Wait, W: Write, E: Write, N: Notes>(
     rt: &R,
     alloc: Global,

@@ -1,4 +1,5 @@
-//! Tests that fail by a denial. No contract says which of them are reported: that helps whoever wrote the test.
+//! Tests that fail by a denial, or because none came. No contract says which of them are reported: that helps whoever
+//! wrote the test.
 
 ghost use Rattle.std.specs.Prelude.{◌≤◌};
 ghost use Rattle.ll_rights.specs.declared.limits.TheConstants.{TREE_NODES};
@@ -11,7 +12,7 @@ use ll_seq::{Entry, Reply};
 use ll_session::CallReplies;
 use ll_wire::Header;
 
-/// A test that fails by a denial.
+/// A test that fails by a denial, or because none came.
 #[derive(Clone, Copy)]
 pub struct DeniedTest<'a> {
     /// The test's file, its line there, from 1, and its command.
@@ -23,12 +24,12 @@ pub struct DeniedTest<'a> {
     pub number: usize,
 }
 
-/// Is notified of tests that fail by a denial.
+/// Is notified of tests that fail by a denial, or because none came.
 pub trait Notes {
     /// Reports whether anything is wanted.
     fn are_wanted(&self) -> bool;
 
-    /// This test fails by a denial, in a tree created with this header.
+    /// This test fails by a denial, or because none came, in a tree created with this header.
     fn of_denied(&mut self, header: &Header, test: &DeniedTest<'_>)
         requires some { 1 ≤ header.now.nodes }
         requires most { header.now.nodes ≤ TREE_NODES };
@@ -53,7 +54,12 @@ fn entered(replies: &[Reply]) -> usize {
     count
 }
 
-/// Reports the tests of a file that fail by a denial.
+// Reports whether layers decide that a test with this reply, which has an entry, fails.
+fn is_decided(test: &Test, reply: &Reply) -> bool {
+    !test.wanted.is_met(reply) && (reply.is_denial() || test.wanted.is_denial())
+}
+
+/// Reports the tests of a file that fail by a denial, or because none came.
 pub fn tell_denied<N: Notes>(
     notes: &mut N,
     reporter: &Reporter<'_>,
@@ -71,11 +77,11 @@ pub fn tell_denied<N: Notes>(
     // The profile's calls come before those of the tests.
     let mut number = entries.len().saturating_sub(entered(replies.as_slice()));
     for (test, reply) in tests.iter().zip(replies.as_slice()) {
-        if has_entry(reply) {
-            number = number.saturating_add(1);
+        if !has_entry(reply) {
+            continue;
         }
-        if reply.is_denial()
-            && !test.wanted.is_met(reply)
+        number = number.saturating_add(1);
+        if is_decided(test, reply)
             && let Ok(command) = command_of(reporter.alloc, test)
         {
             let denied = DeniedTest {

@@ -2,7 +2,7 @@
 //! wrote it.
 
 use crate::lines::body_of;
-use crate::wanted::verdict_of;
+use crate::wanted::{read_wanted, verdict_of};
 use ll_policy::rights_meant;
 use ll_rights::limits::WORD_BYTES;
 use ll_rights::{Access, Errno, Kind, Right};
@@ -257,8 +257,8 @@ enum Stage<'a> {
     End,
     /// After this many arguments of this command.
     Arguments(&'a str, usize),
-    /// After the command and the sign `=`.
-    Reply,
+    /// After a command with this name and the sign `=`.
+    Reply(&'a str),
 }
 
 // Returns the place after a step's verb.
@@ -303,7 +303,7 @@ fn step<'a>(
         },
         Stage::Arguments(name, place) if Some(place) == count_of(name) => {
             if token == "=" && of.has_replies() {
-                return Ok(Ok(Stage::Reply));
+                return Ok(Ok(Stage::Reply(name)));
             }
             Ok(Err(Blame::new(column, of.end_text())))
         }
@@ -314,7 +314,40 @@ fn step<'a>(
             }
             Ok(Err(blame_argument(alloc, column, argument, token)?))
         }
-        Stage::Reply => Ok(Ok(Stage::Reply)),
+        Stage::Reply(name) => Ok(Ok(Stage::Reply(name))),
+    }
+}
+
+// Returns what is expected in place of a reply that a command with this name can't get, whatever the tree.
+fn answers_text(name: &str, is_denial: bool) -> &'static str {
+    match name {
+        "make" | "truncate" | "ftruncate" | "open" | "list" | "exec" | "unlink" | "rmdir"
+            if is_denial => { "this command never answers so: it doesn't ask for that right there" }
+        "rename" | "rename_noreplace" | "exchange" | "link" if is_denial => {
+            "this command never answers so: it doesn't ask for that right there"
+        }
+        "open" => "this command never answers so, but fd, denied or refused",
+        "list" => "this command never answers so, but names, denied or refused",
+        "read" => "this command never answers so, but data or refused",
+        "write" => "this command never answers so, but wrote or refused",
+        "stat" => "this command never answers so, but stat or refused",
+        "ruleset" => "this command never answers so, but ruleset or refused",
+        "spawn" => "this command never answers so, but client or refused",
+        "close" | "allow" | "confine" => "this command never answers so, but ok or refused",
+        _ => "this command never answers so, but ok, denied or refused",
+    }
+}
+
+// Blames a reply that can't come, if the text spells one.
+fn blame_vain(
+    alloc: Global,
+    column: usize,
+    name: &str,
+    reply: &str,
+) -> Result<Option<Blame>, AllocError> {
+    match read_wanted(alloc, reply.as_bytes())? {
+        Some(wanted) => Ok(Some(Blame::new(column, answers_text(name, wanted.is_denial())))),
+        None => Ok(None),
     }
 }
 
@@ -330,8 +363,11 @@ fn is_begun(alloc: Global, words: &[u8]) -> Result<bool, AllocError> {
     }
 }
 
-// Blames the first word that no reply has here.
-fn blame_reply(alloc: Global, column: usize, reply: &str) -> Result<Blame, AllocError> {
+// Blames the first word that no reply has here, or a reply that a command with this name can't get.
+fn blame_reply(alloc: Global, column: usize, name: &str, reply: &str) -> Result<Blame, AllocError> {
+    if let Some(blame) = blame_vain(alloc, column, name, reply)? {
+        return Ok(blame);
+    }
     let mut end = 0;
     for word in reply.split(' ') {
         let start = end;
@@ -384,7 +420,7 @@ fn blame_end(
             blame_whole(of, text, column, is_ended)
         }
         Stage::Arguments(name, place) => Some(Blame::new(column, argument_of(name, place).text())),
-        Stage::Reply => Some(Blame::new(column, "a reply is expected")),
+        Stage::Reply(_) => Some(Blame::new(column, "a reply is expected")),
     }
 }
 
@@ -398,9 +434,9 @@ fn explain_text(
     let mut place: usize = 0;
     for token in text.split(' ') {
         let column = place.saturating_add(1);
-        if let Stage::Reply = stage {
+        if let Stage::Reply(name) = stage {
             return match text.get(place..) {
-                Some(reply) => Ok(Some(blame_reply(alloc, column, reply)?)),
+                Some(reply) => Ok(Some(blame_reply(alloc, column, name, reply)?)),
                 None => Ok(Some(Blame::new(column, "a reply is expected"))),
             };
         }
@@ -411,6 +447,36 @@ fn explain_text(
         place = place.saturating_add(token.len()).saturating_add(1);
     }
     Ok(blame_end(of, stage, text, place, is_ended))
+}
+
+// Blames a line of a file of checks that begins as a section's name does, if it does.
+fn blame_section(body: &[u8]) -> Option<Blame> {
+    let name = body.strip_prefix(b"[".as_slice())?;
+    let Some(end) = name.iter().position(|b| *b == b']') else {
+        return Some(Blame::new(body.len().saturating_add(1), "a section's name ends with ]"));
+    };
+    if end.saturating_add(1) < name.len() {
+        return Some(Blame::new(end.saturating_add(3), "the line's end is expected behind ]"));
+    }
+    match str::from_utf8(name) {
+        Ok(text) if is_section_name(text) => {
+            Some(Blame::new(1, "another name is expected: a section above has this one"))
+        }
+        _ => Some(Blame::new(
+            2,
+            "a section's name is expected, of printed ASCII without brackets",
+        )),
+    }
+}
+
+// Reports whether this is a section's name, with the bracket behind it.
+fn is_section_name(text: &str) -> bool {
+    let name = text.trim_end_matches(']');
+    let is_printed = name
+        .as_bytes()
+        .iter()
+        .all(|b| matches!(*b, b' '..=b'~') && *b != b'[');
+    is_printed && name.as_bytes().iter().any(|b| *b != b' ')
 }
 
 // Returns the line with this number, from 1.
@@ -464,6 +530,11 @@ pub fn explain(
         return Ok(Some(Blame::new(LINE_LIMIT, "a line of at most 16384 bytes is expected")));
     }
     if let Some(blame) = blame_editor(body, number) {
+        return Ok(Some(blame));
+    }
+    if of == LinesOf::Checks
+        && let Some(blame) = blame_section(body)
+    {
         return Ok(Some(blame));
     }
     match str::from_utf8(body) {

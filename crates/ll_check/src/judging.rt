@@ -4,7 +4,7 @@ ghost use Rattle.std.specs.Prelude.{◌≡◌, ◌+◌, ◌-◌, ◌++◌, ◌<�
 ghost use Rattle.std.specs.Prelude.{if◌then◌else◌};
 ghost use Rattle.ll_wire.specs.Grammar.{reply_line};
 ghost use Rattle.ll_session.specs.CallsRun.{call_line};
-ghost use Rattle.ll_check.specs.Report.{Judges, expected, heading, judged, plain, shown, texts};
+ghost use Rattle.ll_check.specs.Report.{Judges, expected, judged, label, plain, shown, texts, titled};
 ghost use Rattle.ll_check.specs.Styles.{test_in};
 
 use crate::lines::body_of;
@@ -55,14 +55,27 @@ pub fn command_of(alloc: Global, test: &Test) -> Result<String, AllocError>
     command_text(alloc, test.call.client, &test.call.call)
 }
 
-// Appends the place and the command.
-fn push_heading(
+/// Appends the name of a section, if it has one. Errors: memory ran out.
+pub(crate) fn push_label(out: &mut Vec<u8>, section: &[u8]) -> Result<(), AllocError>
+    ensures { OnOk result (out.new.items ≡ out.old.items ++ label section.now) }
+{
+    if section.is_empty() {
+        return Ok(());
+    }
+    out.extend_from_slice(b"[")?;
+    out.extend_from_slice(section)?;
+    out.extend_from_slice(b"] ")
+}
+
+// Appends the place, the section's name and the command.
+fn push_title(
     out: &mut Vec<u8>,
     alloc: Global,
     file: &[u8],
+    section: &[u8],
     test: &Test,
 ) -> Result<(), AllocError>
-    ensures { OnOk result (out.new.items ≡ out.old.items ++ heading file.now test.now) }
+    ensures { OnOk result (out.new.items ≡ out.old.items ++ titled file.now section.now test.now) }
 {
     let number = test.line.to_string(alloc)?;
     let command = command_of(alloc, test)?;
@@ -70,6 +83,7 @@ fn push_heading(
     out.extend_from_slice(b":")?;
     out.extend_from_slice(number.as_bytes())?;
     out.extend_from_slice(b": ")?;
+    push_label(out, section)?;
     out.extend_from_slice(command.as_bytes())
 }
 
@@ -98,12 +112,14 @@ impl Tally {
     }
 }
 
-/// Reports on the tests of this file, in this style.
+/// Reports on the tests of this section of this file, in this style.
 #[derive(Clone, Copy)]
 pub struct Reporter<'a> {
     pub alloc: Global,
     pub style: Style,
     pub file: &'a [u8],
+    /// The section's name, or nothing.
+    pub section: &'a [u8],
 }
 
 impl Reporter<'_> {
@@ -116,9 +132,9 @@ impl Reporter<'_> {
         reply: &Reply,
     ) -> Result<(), AllocError>
         ensures { OnOk result (out.new.items ≡ out.old.items
-            ++ plain self.now.file.now (judged test.now reply.now passes)) }
+            ++ plain self.now.file.now self.now.section.now (judged test.now reply.now passes)) }
     {
-        push_heading(out, self.alloc, self.file, test)?;
+        push_title(out, self.alloc, self.file, self.section, test)?;
         if !passes {
             push_expected(out, self.alloc, &test.wanted)?;
         }
@@ -135,7 +151,7 @@ impl Reporter<'_> {
         reply: &Reply,
     ) -> Result<(), AllocError>
         ensures { OnOk result (out.new.items ≡ out.old.items
-            ++ test_in syntax (texts self.now.file.now (judged test.now reply.now passes))) }
+            ++ test_in syntax (texts self.now.file.now self.now.section.now (judged test.now reply.now passes))) }
     {
         let file = escaped(self.alloc, self.file)?;
         let line = test.line.to_string(self.alloc)?;
@@ -145,6 +161,7 @@ impl Reporter<'_> {
         push_wanted(&mut wanted, self.alloc, &test.wanted)?;
         let texts = TestTexts {
             file: file.as_bytes(),
+            section: self.section,
             line: line.as_bytes(),
             command: body_of(command.as_bytes()),
             wanted: body_of(wanted.as_slice()),
@@ -163,7 +180,7 @@ impl Reporter<'_> {
         reply: &Reply,
     ) -> Result<(), AllocError>
         ensures { OnOk result (out.new.items ≡ out.old.items
-            ++ shown self.now.style self.now.file.now (judged test.now reply.now passes)) }
+            ++ shown self.now.style self.now.file.now self.now.section.now (judged test.now reply.now passes)) }
     {
         match self.style {
             Style::Quiet => Ok(()),
@@ -175,7 +192,7 @@ impl Reporter<'_> {
         }
     }
 
-    /// Judges a file's tests by their replies, and appends the report on them.
+    /// Judges a section's tests by their replies, and appends the report on them.
     pub fn judge(
         &self,
         out: &mut Vec<u8>,
@@ -183,7 +200,7 @@ impl Reporter<'_> {
         replies: &[Reply],
     ) -> Result<Tally, AllocError>
         requires { length tests.now ≡ length replies.now }
-        ensures { IfOk result (Judges self.now.style self.now.file.now tests.now replies.now
+        ensures { IfOk result (Judges self.now.style self.now.file.now self.now.section.now tests.now replies.now
             out.old.items out.new.items) }
     {
         let mut tally = Tally {

@@ -2,7 +2,7 @@
 
 ghost use Rattle.std.specs.Prelude.{◌≡◌, ◌≤◌, ◌<◌, ◌⊎◌, ℕ, true, false, Some, length, map, string_bytes, IfErr, IfOk};
 ghost use Rattle.std.specs.Prelude.{IfNone, IfSome};
-ghost use Rattle.std.specs.List.{list_all};
+ghost use Rattle.std.specs.List.{AllZip, list_all};
 ghost use Rattle.ll_audit.specs.Saved.{opened};
 ghost use Rattle.ll_learn.specs.Learned.{IsLearned, IsUnlearned};
 ghost use Rattle.ll_learn.specs.declared.fault.Unlearned as fault;
@@ -11,18 +11,22 @@ ghost use Rattle.ll_rights.specs.declared.limits.TheConstants.{TREE_NODES};
 ghost use Rattle.ll_path.specs.Path.{path_of_text};
 ghost use Rattle.ll_program.specs.Learn.{IsWithheld, most_rules, profile_name};
 ghost use Rattle.ll_program.specs.Options.{learn_in};
-ghost use Rattle.ll_check.specs.Files.{has_test, source_of, tests_of};
-ghost use Rattle.ll_check.specs.Lessons.{EndsLessons, FailsToLearn, HasWrongWord, IsHindered, IsProfile, IsTaughtBy};
-ghost use Rattle.ll_check.specs.Lessons.{TeachNothing, is_of_lessons, learner, lessons_of, picked};
+ghost use Rattle.ll_check.specs.Checks.{has_test, tests_of};
+ghost use Rattle.ll_check.specs.Files.{source_of};
+ghost use Rattle.ll_check.specs.Lessons.{AreTaught, AreTried, EndsLessons, FailsToLearn, FailsToMake, HasWrongWord};
+ghost use Rattle.ll_check.specs.Lessons.{IsBlank, IsHindered, IsProfile, IsTaughtBy, TeachNothing, is_of_lessons};
+ghost use Rattle.ll_check.specs.Lessons.{learner, lessons_of, picked};
 
-use crate::checks::{NamedText, ReadFile, have_tests, read_all, tell_bad, tell_untested};
+use crate::checks::{NamedText, have_tests, read_all, tell_bad, tell_untested};
 use crate::denied::Notes;
 use crate::lessons::{FileLessons, LessonNotes, lessons_in};
+use crate::reading::ReadFile;
 use crate::teaching::teach_all;
 use crate::trees::Trees;
 use crate::trial::pass_under;
+use crate::undenied::Candidate;
 use crate::untaught::Taught;
-use ll_learn::{Aim, LearnedProfile, Unlearned, learn};
+use ll_learn::{Aim, Basis, LearnedProfile, Made, Unlearned, learn, made_rights};
 use ll_path::Path;
 use ll_program::{Checked, Failure, LearnOptions, header_of, paths_of};
 use ll_rights::Access;
@@ -81,8 +85,8 @@ impl<'a> Request<'a> {
     }
 }
 
-// Returns the client that makes the lessons.
-fn learner(blank: &Setup) -> u64
+/// Returns the client that makes the lessons.
+pub(crate) fn learner(blank: &Setup) -> u64
     ensures { result ≡ learner blank.now }
 {
     if blank.loader.is_some() { 2 } else { 1 }
@@ -142,6 +146,53 @@ fn learned_from<E: Write>(
     }
 }
 
+// What lessons teach: a profile for this client, from these histories of their trees.
+#[derive(Drop)]
+struct Lesson {
+    profile: LearnedProfile,
+    client: u64,
+    histories: Vec<History>,
+}
+
+// Learns from the histories of all lessons. None if nothing is learned, which is printed.
+fn profile_by<E: Write>(
+    trees: &Trees<'_, '_>,
+    request: &Request<'_>,
+    blank: &Setup,
+    lessons: &[FileLessons<'_>],
+    histories: &[History],
+    err: &mut E,
+) -> Result<Option<LearnedProfile>, Failure>
+    requires never { IsWithheld (learn_in trees.now.options.now).never (Some request.now.never) }
+    requires beneath { request.now.beneath.items ≡ map path_of_text (learn_in trees.now.options.now).beneath }
+    requires blank { IsBlank (learn_in trees.now.options.now) trees.now.policy.now blank.now }
+    requires taught { AllZip (AreTaught (learn_in trees.now.options.now) trees.now.policy.now)
+        (map picked lessons.now) (map (λ history. history.entries) histories.now) }
+    ensures taught { IfOk result (λ found. IfSome found
+        (IsTaughtBy (learn_in trees.now.options.now) trees.now.policy.now (map picked lessons.now))) }
+    ensures nothing { IfOk result (λ found. IfNone found
+        (TeachNothing (learn_in trees.now.options.now) trees.now.policy.now (map picked lessons.now))) }
+    ensures failure { IfErr result
+        (FailsToLearn (learn_in trees.now.options.now) trees.now.policy.now (map picked lessons.now)) }
+{
+    let header = header_of(blank);
+    let entries = match entries_of(trees.alloc, histories) {
+        Ok(entries) => entries,
+        Err(failure) => return Err(failure),
+    };
+    let taught = Taught {
+        lessons,
+        histories: entries.as_slice(),
+    };
+    let aim = Aim {
+        client: learner(blank),
+        handled: Access::known(blank.rules.abi),
+        never: request.never,
+        beneath: request.beneath.as_slice(),
+    };
+    learned_from(trees.alloc, &header, &taught, &aim, err)
+}
+
 // Learns from all lessons. None if one doesn't get the reply that it says, or nothing is learned, which is printed.
 fn taught_by<R: Wait, E: Write>(
     rt: &R,
@@ -149,11 +200,11 @@ fn taught_by<R: Wait, E: Write>(
     request: &Request<'_>,
     lessons: &[FileLessons<'_>],
     err: &mut E,
-) -> Result<Option<LearnedProfile>, Failure>
+) -> Result<Option<Lesson>, Failure>
     requires never { IsWithheld (learn_in trees.now.options.now).never (Some request.now.never) }
     requires beneath { request.now.beneath.items ≡ map path_of_text (learn_in trees.now.options.now).beneath }
-    ensures taught { IfOk result (λ found. IfSome found
-        (IsTaughtBy (learn_in trees.now.options.now) trees.now.policy.now (map picked lessons.now))) }
+    ensures taught { IfOk result (λ found. IfSome found (λ lesson.
+        IsTaughtBy (learn_in trees.now.options.now) trees.now.policy.now (map picked lessons.now) lesson.profile)) }
     ensures nothing { IfOk result (λ found. IfNone found
         (TeachNothing (learn_in trees.now.options.now) trees.now.policy.now (map picked lessons.now))) }
     ensures failure { IfErr result
@@ -163,27 +214,20 @@ fn taught_by<R: Wait, E: Write>(
         Ok(blank) => blank,
         Err(failure) => return Err(failure),
     };
-    let header = header_of(&blank);
     let histories = match teach_all(rt, trees, lessons, err) {
         Ok(Some(histories)) => histories,
         Ok(None) => return Ok(None),
         Err(failure) => return Err(failure),
     };
-    let entries = match entries_of(trees.alloc, histories.as_slice()) {
-        Ok(entries) => entries,
-        Err(failure) => return Err(failure),
-    };
-    let taught = Taught {
-        lessons,
-        histories: entries.as_slice(),
-    };
-    let aim = Aim {
-        client: learner(&blank),
-        handled: Access::known(blank.rules.abi),
-        never: request.never,
-        beneath: request.beneath.as_slice(),
-    };
-    learned_from(trees.alloc, &header, &taught, &aim, err)
+    match profile_by(trees, request, &blank, lessons, histories.as_slice(), err) {
+        Ok(Some(profile)) => Ok(Some(Lesson {
+            profile,
+            client: learner(&blank),
+            histories,
+        })),
+        Ok(None) => Ok(None),
+        Err(failure) => Err(failure),
+    }
 }
 
 // Reports whether there are no more rules than allowed. Prints it if there are.
@@ -201,6 +245,72 @@ fn are_few<E: Write>(request: &Request<'_>, profile: &LearnedProfile, err: &mut 
         "{rules} rules, {most} may be: --most {RULESET_INODES}, or --beneath DIR"
     );
     false
+}
+
+impl Lesson {
+    // Reports whether all tests of all files pass under the profile. Prints those that don't.
+    fn passes<R: Wait, E: Write, N: Notes>(
+        &self,
+        rt: &R,
+        trees: &Trees<'_, '_>,
+        lessons: &[FileLessons<'_>],
+        files: &[ReadFile<'_>],
+        err: &mut E,
+        notes: &mut N,
+    ) -> Result<bool, Failure>
+        ensures tried { IfOk result (AreTried (learn_in trees.now.options.now) trees.now.policy.now
+            self.now.profile (map tests_of files.now)) }
+        ensures failure { IfErr result (FailsToMake (learn_in trees.now.options.now) trees.now.policy.now) }
+    {
+        let entries = match entries_of(trees.alloc, self.histories.as_slice()) {
+            Ok(entries) => entries,
+            Err(failure) => return Err(failure),
+        };
+        let candidate = Candidate {
+            profile: &self.profile,
+            taught: Taught {
+                lessons,
+                histories: entries.as_slice(),
+            },
+            client: self.client,
+            file: 0,
+        };
+        pass_under(rt, trees, &candidate, files, err, notes)
+    }
+
+    // Returns the rights that rules on directories have only for what is made there. None if that isn't known.
+    fn made(&self, trees: &Trees<'_, '_>) -> Option<Vec<Made>> {
+        let blank = trees.blank().ok()?;
+        let header = header_of(&blank);
+        let entries = entries_of(trees.alloc, self.histories.as_slice()).ok()?;
+        let basis = Basis {
+            header: &header,
+            histories: entries.as_slice(),
+            client: self.client,
+        };
+        made_rights(trees.alloc, &basis, &self.profile)
+    }
+
+    // Prints these rights, if that is wanted. No contract says how.
+    fn tell_made<E: Write>(&self, trees: &Trees<'_, '_>, is_wanted: bool, err: &mut E) {
+        if !is_wanted {
+            return;
+        }
+        let Some(made) = self.made(trees) else {
+            return;
+        };
+        for one in &made {
+            if let Some(rule) = self.profile.rules.get(one.rule)
+                && let Ok(rights) = one.rights.text(trees.alloc)
+            {
+                let (path, rights) = (rule.path.as_str(), rights.as_str());
+                let _ = writeln!(
+                    err,
+                    "  {path}: {rights} only for what is made there: make a directory for it first"
+                );
+            }
+        }
+    }
 }
 
 // Returns the text of the profile that the files teach, and under which their tests pass. None if there is none, which
@@ -229,23 +339,24 @@ fn text_of<R: Wait, E: Write, N: Notes>(
         Ok(lessons) => lessons,
         Err(failure) => return Err(failure),
     };
-    let profile = match taught_by(rt, trees, request, lessons.as_slice(), err) {
-        Ok(Some(profile)) => profile,
+    let lesson = match taught_by(rt, trees, request, lessons.as_slice(), err) {
+        Ok(Some(lesson)) => lesson,
         Ok(None) => return Ok(None),
         Err(failure) => return Err(failure),
     };
-    if !are_few(request, &profile, err) {
+    if !are_few(request, &lesson.profile, err) {
         return Err(Failure::CommandLine);
     }
-    match pass_under(rt, trees, &profile, files, err, notes) {
+    match lesson.passes(rt, trees, lessons.as_slice(), files, err, notes) {
         Ok(true) => {}
         Ok(false) => return Ok(None),
         Err(failure) => return Err(failure),
     }
+    lesson.tell_made(trees, notes.are_wanted(), err);
     let lines = LessonNotes {
         files: lessons.as_slice(),
     };
-    match profile.text(trees.alloc, &lines, request.name) {
+    match lesson.profile.text(trees.alloc, &lines, request.name) {
         Ok(text) => Ok(Some(text)),
         Err(_) => Err(Failure::NoMemory),
     }

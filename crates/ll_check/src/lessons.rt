@@ -3,22 +3,22 @@
 ghost use Rattle.std.specs.Prelude.{◌≡◌, codes, map, not, slice_get, string_bytes, IfErr, IfOk};
 ghost use Rattle.std.specs.List.{filter};
 ghost use Rattle.std.specs.Option.{option_map_or};
-ghost use Rattle.ll_check.specs.Files.{tests_of};
+ghost use Rattle.ll_check.specs.Checks.{tests_of};
 ghost use Rattle.ll_check.specs.Lessons.{lesson_note, lessons_of, picked};
 ghost use Rattle.ll_check.specs.Report.{heading};
 ghost use Rattle.ll_check.specs.Wanted.{wants_denial};
 
-use crate::checks::ReadFile;
 use crate::judging::command_of;
-use crate::reading::Test;
+use crate::reading::{ReadFile, Test};
 use ll_learn::{Notes, Origin};
 use ll_program::Failure;
 use std::alloc::{AllocError, Global};
 
-/// The lessons of a file: its name, and these of its tests.
+/// The lessons of a section: its file's name, its own name, and these of its tests.
 #[derive(Drop)]
 pub(crate) struct FileLessons<'a> {
     pub name: &'a str,
+    pub section: &'a [u8],
     pub tests: Vec<&'a Test>,
 }
 
@@ -44,6 +44,7 @@ impl<'a> FileLessons<'a> {
         let tests = picked_of(alloc, file.checks.tests.as_slice())?;
         Ok(FileLessons {
             name: file.name,
+            section: file.section.as_slice(),
             tests,
         })
     }

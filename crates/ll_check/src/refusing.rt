@@ -1,5 +1,6 @@
 //! What is printed about a refused profile.
 
+use crate::judging::{Reporter, push_label};
 use ll_seq::{Call, Entry, Reply};
 use ll_session::reply_line;
 use ll_wire::{command_text, is_spelled, reply_text_behind};
@@ -97,16 +98,18 @@ pub fn refusal_text(
     }
 }
 
-/// Appends a line on a profile that is refused, behind the file's name. Errors: memory ran out. No contract says how.
+/// Appends a line on a profile that is refused, behind the names of the file and the section. Errors: memory ran out.
+/// No contract says how.
 pub fn push_refusal(
     out: &mut Vec<u8>,
-    alloc: Global,
-    file: &[u8],
+    reporter: &Reporter<'_>,
     entries: &[Entry],
     refusal: &Reply,
 ) -> Result<(), AllocError> {
-    let line = refusal_text(alloc, entries, refusal)?;
-    out.extend_from_slice(file)?;
-    out.extend_from_slice(b": profile refused: ")?;
+    let line = refusal_text(reporter.alloc, entries, refusal)?;
+    out.extend_from_slice(reporter.file)?;
+    out.extend_from_slice(b": ")?;
+    push_label(out, reporter.section)?;
+    out.extend_from_slice(b"profile refused: ")?;
     out.extend_from_slice(line.as_bytes())
 }

@@ -1,9 +1,10 @@
 //! Writes tests for other programs: as TAP, as JUnit's XML, and as JSON.
 
 ghost use Rattle.std.specs.Prelude.{◌≡◌, ◌++◌, OnOk, decimal};
-ghost use Rattle.ll_check.specs.Styles.{byte_in, head, json_end, json_sums, json_test, json_verdict, junit_end};
-ghost use Rattle.ll_check.specs.Styles.{junit_got, junit_head, junit_test, sum_line, tail, tap_got, tap_head};
-ghost use Rattle.ll_check.specs.Styles.{tap_reason, tap_test, tap_verdict, test_in, text_in, texts_of};
+ghost use Rattle.ll_check.specs.Styles.{byte_in, head, json_end, json_section, json_sums, json_test, json_verdict};
+ghost use Rattle.ll_check.specs.Styles.{junit_end, junit_got, junit_head, junit_section, junit_test, sum_line, tail};
+ghost use Rattle.ll_check.specs.Styles.{tap_end, tap_got, tap_head, tap_reason, tap_section, tap_test, tap_verdict};
+ghost use Rattle.ll_check.specs.Styles.{test_in, text_in, texts_of};
 
 use crate::judging::{Style, Tally};
 use std::alloc::{AllocError, Global};
@@ -58,6 +59,8 @@ impl Syntax {
 #[derive(Clone, Copy)]
 pub(crate) struct TestTexts<'a> {
     pub file: &'a [u8],
+    /// The name of its section, or nothing.
+    pub section: &'a [u8],
     /// The number of its line.
     pub line: &'a [u8],
     pub command: &'a [u8],
@@ -99,6 +102,28 @@ impl TestTexts<'_> {
         }
     }
 
+    // Appends the name of its section, if it has one.
+    fn push_tap_section(&self, out: &mut Vec<u8>) -> Result<(), AllocError>
+        ensures { OnOk result (out.new.items ≡ out.old.items ++ tap_section self.now.section.now) }
+    {
+        if self.section.is_empty() {
+            return Ok(());
+        }
+        push_bytes(out, b"[")?;
+        Syntax::Tap.push(out, self.section)?;
+        push_bytes(out, b"] ")
+    }
+
+    // Appends its command, and why it fails, if it does.
+    fn push_tap_end(&self, out: &mut Vec<u8>) -> Result<(), AllocError>
+        ensures { OnOk result (out.new.items ≡ out.old.items ++ tap_end (texts_of self.now)) }
+    {
+        Syntax::Tap.push(out, self.command)?;
+        push_bytes(out, b"\n")?;
+        self.push_tap_reason(out)?;
+        Ok(())
+    }
+
     fn push_tap(&self, out: &mut Vec<u8>) -> Result<(), AllocError>
         ensures { OnOk result (out.new.items ≡ out.old.items ++ tap_test (texts_of self.now)) }
     {
@@ -107,9 +132,8 @@ impl TestTexts<'_> {
         push_bytes(out, b":")?;
         push_bytes(out, self.line)?;
         push_bytes(out, b": ")?;
-        Syntax::Tap.push(out, self.command)?;
-        push_bytes(out, b"\n")?;
-        self.push_tap_reason(out)?;
+        self.push_tap_section(out)?;
+        self.push_tap_end(out)?;
         Ok(())
     }
 
@@ -134,11 +158,24 @@ impl TestTexts<'_> {
         Ok(())
     }
 
+    // Appends the name of its section, if it has one.
+    fn push_junit_section(&self, out: &mut Vec<u8>) -> Result<(), AllocError>
+        ensures { OnOk result (out.new.items ≡ out.old.items ++ junit_section self.now.section.now) }
+    {
+        if self.section.is_empty() {
+            return Ok(());
+        }
+        push_bytes(out, b" [")?;
+        Syntax::Xml.push(out, self.section)?;
+        push_bytes(out, b"]")
+    }
+
     fn push_junit(&self, out: &mut Vec<u8>) -> Result<(), AllocError>
         ensures { OnOk result (out.new.items ≡ out.old.items ++ junit_test (texts_of self.now)) }
     {
         push_bytes(out, b"<testcase classname=\"")?;
         Syntax::Xml.push(out, self.file)?;
+        self.push_junit_section(out)?;
         push_bytes(out, b"\" name=\"")?;
         push_bytes(out, self.line)?;
         push_bytes(out, b": ")?;
@@ -168,11 +205,24 @@ impl TestTexts<'_> {
         self.push_passes(out)
     }
 
+    // Appends the name of its section, if it has one.
+    fn push_json_section(&self, out: &mut Vec<u8>) -> Result<(), AllocError>
+        ensures { OnOk result (out.new.items ≡ out.old.items ++ json_section self.now.section.now) }
+    {
+        if self.section.is_empty() {
+            return Ok(());
+        }
+        push_bytes(out, b"\", \"section\": \"")?;
+        Syntax::Json.push(out, self.section)?;
+        Ok(())
+    }
+
     fn push_json(&self, out: &mut Vec<u8>) -> Result<(), AllocError>
         ensures { OnOk result (out.new.items ≡ out.old.items ++ json_test (texts_of self.now)) }
     {
         push_bytes(out, b"{\"file\": \"")?;
         Syntax::Json.push(out, self.file)?;
+        self.push_json_section(out)?;
         push_bytes(out, b"\", \"line\": ")?;
         push_bytes(out, self.line)?;
         push_bytes(out, b", \"command\": \"")?;

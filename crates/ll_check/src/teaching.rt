@@ -41,15 +41,7 @@ fn tell_unmet<E: Write>(reporter: &Reporter<'_>, lesson: &Test, reply: &Reply, e
 // Prints that a file's tree isn't opened.
 fn tell_refusal<E: Write>(reporter: &Reporter<'_>, history: &History, reply: &Reply, err: &mut E) {
     let mut report = Vec::new(reporter.alloc);
-    if push_refusal(
-        &mut report,
-        reporter.alloc,
-        reporter.file,
-        history.entries(),
-        reply,
-    )
-    .is_ok()
-    {
+    if push_refusal(&mut report, reporter, history.entries(), reply).is_ok() {
         let _ = err.write_all(report.as_slice());
     }
 }
@@ -127,6 +119,7 @@ fn teach<R: Wait, E: Write>(
         alloc: trees.alloc,
         style: Style::Usual,
         file: file.name.as_bytes(),
+        section: file.section,
     };
     if are_answered(&reporter, lessons, &made, &history, err) {
         Ok(Some(history))

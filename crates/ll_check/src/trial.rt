@@ -2,17 +2,19 @@
 
 ghost use Rattle.std.specs.Prelude.{◌≡◌, ◌&&◌, map, IfErr, IfOk};
 ghost use Rattle.ll_program.specs.Options.{learn_in};
-ghost use Rattle.ll_check.specs.Files.{tests_of};
+ghost use Rattle.ll_check.specs.Checks.{tests_of};
 ghost use Rattle.ll_check.specs.Lessons.{AreTried, FailsToMake, HasTrial};
 
 use crate::checking::check_file;
-use crate::checks::ReadFile;
 use crate::denied::{Notes, tell_denied};
 use crate::judging::{Reporter, Style};
+use crate::reading::ReadFile;
 use crate::running::{failure_of, ran_out};
 use crate::trees::Trees;
-use ll_learn::LearnedProfile;
+use crate::undenied::Candidate;
+use ll_learn::Basis;
 use ll_program::{Failure, header_of};
+use ll_session::CallReplies;
 use std::io::Write;
 use std::sync::Wait;
 
@@ -20,17 +22,17 @@ use std::sync::Wait;
 fn passes_under<R: Wait, E: Write, N: Notes>(
     rt: &R,
     trees: &Trees<'_, '_>,
-    profile: &LearnedProfile,
+    candidate: &Candidate<'_, '_>,
     file: &ReadFile<'_>,
     err: &mut E,
     notes: &mut N,
 ) -> Result<bool, Failure>
-    ensures tried { IfOk result
-        (HasTrial (learn_in trees.now.options.now) trees.now.policy.now profile.now (tests_of file.now)) }
+    ensures tried { IfOk result (HasTrial (learn_in trees.now.options.now) trees.now.policy.now
+        candidate.now.profile.now (tests_of file.now)) }
     ensures failure { IfErr result (FailsToMake (learn_in trees.now.options.now) trees.now.policy.now) }
 {
     let tests = file.checks.tests.as_slice();
-    let Ok(calls) = profile.calls(trees.alloc) else {
+    let Ok(calls) = candidate.profile.calls(trees.alloc) else {
         return Err(Failure::NoMemory);
     };
     let setup = match trees.tree(calls, tests.len()) {
@@ -42,6 +44,7 @@ fn passes_under<R: Wait, E: Write, N: Notes>(
         alloc: trees.alloc,
         style: Style::Usual,
         file: file.name.as_bytes(),
+        section: file.section.as_slice(),
     };
     let mut report = Vec::new(trees.alloc);
     let checked = match check_file(rt, &mut report, &reporter, setup, tests) {
@@ -52,6 +55,14 @@ fn passes_under<R: Wait, E: Write, N: Notes>(
         return Err(Failure::NoMemory);
     }
     let _ = err.write_all(report.as_slice());
+    let basis = Basis {
+        header: &header,
+        histories: candidate.taught.histories,
+        client: candidate.client,
+    };
+    if let CallReplies::Answered(replies) = &checked.made {
+        candidate.tell(trees.alloc, &basis, tests, replies.as_slice(), err);
+    }
     if notes.are_wanted() {
         tell_denied(notes, &reporter, &header, tests, &checked);
     }
@@ -65,25 +76,27 @@ fn both(pass: bool, passes: bool) -> bool
     pass && passes
 }
 
-/// Reports whether all tests of all files pass like this. Prints those that don't.
+/// Reports whether all tests of all files pass under the candidate's profile. Prints those that don't.
 pub(crate) fn pass_under<R: Wait, E: Write, N: Notes>(
     rt: &R,
     trees: &Trees<'_, '_>,
-    profile: &LearnedProfile,
+    candidate: &Candidate<'_, '_>,
     files: &[ReadFile<'_>],
     err: &mut E,
     notes: &mut N,
 ) -> Result<bool, Failure>
-    ensures tried { IfOk result
-        (AreTried (learn_in trees.now.options.now) trees.now.policy.now profile.now (map tests_of files.now)) }
+    ensures tried { IfOk result (AreTried (learn_in trees.now.options.now) trees.now.policy.now
+        candidate.now.profile.now (map tests_of files.now)) }
     ensures failure { IfErr result (FailsToMake (learn_in trees.now.options.now) trees.now.policy.now) }
 {
     let mut pass = true;
+    let mut tried = *candidate;
     for file in files {
-        match passes_under(rt, trees, profile, file, err, notes) {
+        match passes_under(rt, trees, &tried, file, err, notes) {
             Ok(passes) => pass = both(pass, passes),
             Err(failure) => return Err(failure),
         }
+        tried = tried.next();
     }
     Ok(pass)
 }

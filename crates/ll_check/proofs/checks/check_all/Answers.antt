@@ -1,6 +1,7 @@
 use Rattle.std.proofs.Common.{◌≡◌, List, map, take, ◌+◌, subst, sym}
 use Rattle.ll_program.specs.Options.{checked_in}
-use Rattle.ll_check.specs.Files.{AreChecked, Tests, tests_of}
+use Rattle.ll_check.specs.Checks.{Tests, tests_of}
+use Rattle.ll_check.specs.Files.{AreChecked}
 use Rattle.ll_check.proofs.Files.{checked_more, one_more}
 use Rattle.ll_check.proofs.checks.check_all.Goals as goal
 

@@ -1,6 +1,7 @@
 use Rattle.std.proofs.Common.{map, take}
 use Rattle.ll_program.specs.Options.{checked_in}
-use Rattle.ll_check.specs.Files.{AreChecked, tests_of}
+use Rattle.ll_check.specs.Checks.{tests_of}
+use Rattle.ll_check.specs.Files.{AreChecked}
 use Rattle.ll_check.proofs.checks.check_all.Given as goal
 
 -- what the files so far have given

@@ -1,7 +1,8 @@
 use Rattle.std.proofs.Common.{◌∙◌, ◌≡◌, ◌++◌, ℕ, List, ap, inr, map, refl, subst}
 use Rattle.ll_wire.specs.Writing.{AppendsFront}
 use Rattle.ll_program.specs.Options.{checked_in}
-use Rattle.ll_check.specs.Files.{AreChecked, end_of, style_of, tests_of}
+use Rattle.ll_check.specs.Checks.{tests_of}
+use Rattle.ll_check.specs.Files.{AreChecked, end_of, style_of}
 use Rattle.ll_check.specs.Styles.{head, tail}
 use Rattle.ll_check.specs.declared.judging.Style.{Style}
 use Rattle.ll_check.proofs.checks.conclude.Goals as goal

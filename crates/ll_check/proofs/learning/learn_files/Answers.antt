@@ -1,6 +1,6 @@
 use Rattle.std.proofs.Common.{List, ℕ, map, subst, sym}
 use Rattle.ll_program.specs.Options.{learn_in}
-use Rattle.ll_check.specs.Files.{tests_of}
+use Rattle.ll_check.specs.Checks.{tests_of}
 use Rattle.ll_check.specs.Lessons.{IsProfile}
 use Rattle.ll_check.proofs.Taught.{cut_short, hindered, not_taught, untested, written}
 use Rattle.ll_check.proofs.learning.learn_files.Goals as goal

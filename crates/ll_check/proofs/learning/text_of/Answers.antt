@@ -1,8 +1,8 @@
-use Rattle.std.proofs.Common.{◌≡◌, ◌∙◌, ◌<◌, ◌≤◌, ℕ, Bool, List, ap, inl, inr, length, map, refl, subst}
+use Rattle.std.proofs.Common.{◌∙◌, ◌<◌, ◌≤◌, ℕ, Bool, List, ap, inl, inr, length, map, refl, subst}
 use Rattle.ll_learn.specs.Profile.{profile_text}
 use Rattle.ll_program.specs.Options.{learn_in}
-use Rattle.ll_check.specs.Files.{Tests, tests_of}
-use Rattle.ll_check.specs.Lessons.{AreTried, FailsToLearn, IsTaughtBy, TeachNothing, lesson_note, lessons_of, picked}
+use Rattle.ll_check.specs.Checks.{Tests, tests_of}
+use Rattle.ll_check.specs.Lessons.{AreTried, FailsToLearn, IsTaughtBy, TeachNothing, lesson_note, picked}
 use Rattle.ll_check.proofs.Trials.{tried_so}
 use Rattle.ll_check.proofs.learning.text_of.Goals as goal
 
@@ -14,7 +14,7 @@ returns-in-Err-taught_by-clause-failure g c =
 
 pub returns-then-not-are_few-clause-failure : goal.returns-then-not-are_few-clause-failure
 returns-then-not-are_few-clause-failure g c =
-    let profile = c.in-Ok-Some.profile in
+    let profile = c.in-Ok-Some.lesson.profile in
     let taught = rw c.in-Ok-Some.field-0-is at c.in-Ok-Some.ensures.taught in
     inl (
       refl,
@@ -29,7 +29,7 @@ returns-then-not-are_few-clause-failure g c =
 
 pub returns-in-Ok-text-clause-profile : goal.returns-in-Ok-text-clause-profile
 returns-in-Ok-text-clause-profile g c =
-    let profile = c.in-Ok-Some.profile in
+    let profile = c.in-Ok-Some.lesson.profile in
     let taught = rw c.in-Ok-Some.field-0-is at c.in-Ok-Some.ensures.taught in
     record {
       tested = c.requires.tested;
@@ -45,7 +45,7 @@ returns-in-Ok-text-clause-profile g c =
       named = c.requires.name;
       text = c.in-Ok-text.ensures
           ∙ ap (λ (x : List Tests). profile_text (lesson_note x) c.args.request.now.name.now profile)
-          (ap (map picked) c.as_slice-2.ensures.value ∙ c.in-Ok.ensures.lessons);
+          (ap (map picked) c.as_slice-3.ensures.value ∙ c.in-Ok.ensures.lessons);
     }
 
 pub returns-in-Ok-None-clause-hindered : goal.returns-in-Ok-None-clause-hindered
@@ -56,7 +56,7 @@ returns-in-Ok-None-clause-hindered g c =
 
 pub returns-in-Ok-false-clause-hindered : goal.returns-in-Ok-false-clause-hindered
 returns-in-Ok-false-clause-hindered g c =
-    let profile = c.in-Ok-Some.profile in
+    let profile = c.in-Ok-Some.lesson.profile in
     let taught = rw c.in-Ok-Some.field-0-is at c.in-Ok-Some.ensures.taught in
     inr (inr (
       profile,
@@ -68,5 +68,5 @@ returns-in-Ok-false-clause-hindered g c =
           (map tests_of c.args.files.now) b) c.in-Ok-false.field-0-test c.in-Ok-false.ensures.tried,
     ))
 
-pub returns-in-Err-pass_under-clause-failure : goal.returns-in-Err-pass_under-clause-failure
-returns-in-Err-pass_under-clause-failure g c = inr c.in-Err-pass_under.ensures.failure
+pub returns-in-Err-passes-clause-failure : goal.returns-in-Err-passes-clause-failure
+returns-in-Err-passes-clause-failure g c = inr c.in-Err-passes.ensures.failure

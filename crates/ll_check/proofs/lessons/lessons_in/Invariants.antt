@@ -1,5 +1,5 @@
 use Rattle.std.proofs.Common.{◌≡◌, map, take}
-use Rattle.ll_check.specs.Files.{tests_of}
+use Rattle.ll_check.specs.Checks.{tests_of}
 use Rattle.ll_check.specs.Lessons.{lessons_of, picked}
 use Rattle.ll_check.proofs.lessons.lessons_in.Given as goal
 

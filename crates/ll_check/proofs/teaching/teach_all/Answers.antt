@@ -6,7 +6,7 @@ use Rattle.ll_seq.specs.declared.reply.Entry.{Entry}
 use Rattle.ll_seq.specs.History.{Log}
 use Rattle.ll_program.specs.Options.{learn_in}
 use Rattle.ll_check.specs.declared.lessons.FileLessons.{FileLessons}
-use Rattle.ll_check.specs.Files.{Tests}
+use Rattle.ll_check.specs.Checks.{Tests}
 use Rattle.ll_check.specs.Lessons.{AreTaught, picked}
 use Rattle.ll_check.proofs.Courses.{one_not_met}
 use Rattle.ll_check.proofs.Told.{each_more}

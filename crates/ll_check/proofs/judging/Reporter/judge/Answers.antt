@@ -4,13 +4,15 @@ use Rattle.ll_check.proofs.judging.Reporter.judge.Goals as goal
 
 pub loop-i-init : goal.loop-i-init
 loop-i-init c = record {
-  judges = none_judged c.args.self.now.style c.args.self.now.file.now c.args.out.now.items _ refl refl;
+  judges = none_judged c.args.self.now.style c.args.self.now.file.now c.args.self.now.section.now
+      c.args.out.now.items _ refl refl;
   all = refl;
 }
 
 pub loop-i-preserved : goal.loop-i-preserved
 loop-i-preserved c = record {
-  judges = one_judged c.args.self.now.style c.args.self.now.file.now c.args.tests.now c.args.replies.now c.loop-i.i
+  judges = one_judged c.args.self.now.style c.args.self.now.file.now c.args.self.now.section.now
+      c.args.tests.now c.args.replies.now c.loop-i.i
       c.index-tests-i.result c.index-replies-i.result c.is_met-passes.result c.args.out.now.items
       c.loop-i.out.items c.push_shown.new.out.items c.loop-i.tally c.count.new.self (omega arith)
       (omega (arith, c.requires)) c.index-tests-i.is c.index-replies-i.is c.loop-i.invariant.judges
@@ -20,6 +22,7 @@ loop-i-preserved c = record {
 }
 
 pub returns : goal.returns
-returns c = all_judged c.args.self.now.style c.args.self.now.file.now c.args.tests.now c.args.replies.now c.loop-i.i
+returns c = all_judged c.args.self.now.style c.args.self.now.file.now c.args.self.now.section.now
+    c.args.tests.now c.args.replies.now c.loop-i.i
     c.args.out.now.items c.loop-i.out.items c.loop-i.tally (omega arith) (omega (arith, c.requires))
     c.loop-i.invariant.judges

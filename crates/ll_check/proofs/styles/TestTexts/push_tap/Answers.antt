@@ -1,5 +1,5 @@
 use Rattle.std.proofs.Common.{codes}
-use Rattle.ll_check.specs.Styles.{tap_verdict, text_in}
+use Rattle.ll_check.specs.Styles.{tap_section, tap_verdict, text_in}
 use Rattle.ll_check.specs.declared.styles.Syntax.TheVariants.{Tap}
 use Rattle.ll_check.proofs.Joins.{behind}
 use Rattle.ll_check.proofs.styles.TestTexts.push_tap.Goals as goal
@@ -12,5 +12,5 @@ returns c =
     (behind (codes ":") _ _ _ _ c.in_ok-push_bytes.ensures
     (behind it.line.now _ _ _ _ c.in_ok-push_bytes-2.ensures
     (behind (codes ": ") _ _ _ _ c.in_ok-push_bytes-3.ensures
-    (behind (text_in Tap it.command.now) _ _ _ _ c.in_ok-push-2.ensures
-    (behind (codes "\n") _ _ _ _ c.in_ok-push_bytes-4.ensures c.in_ok-push_tap_reason.ensures))))))
+    (behind (tap_section it.section.now) _ _ _ _ c.in_ok-push_tap_section.ensures
+    c.in_ok-push_tap_end.ensures)))))
