@@ -1,7 +1,12 @@
 -- Schedules that the words ask for.
 use Rattle.std.proofs.Common.{◌≡◌, ◌⊎◌, ℕ, List, [], Option, Some, None, Result, Ok, Err, refl, sym, subst, inl, inr}
 use Rattle.std.specs.Prelude.{IfErr, IfSome, OnErr, OnOk}
-use Rattle.std.proofs.Common.{append-nil}
+use Rattle.std.proofs.Common.{◌+◌, ◌∙◌, ap, append-nil, arith, length}
+use Rattle.std.specs.Io.KnownBytes.{Appends}
+use Rattle.ll_picture.specs.Pictures.{IsPicture}
+use Rattle.ll_picture.specs.Windows.{drawn_of}
+use Rattle.ll_picture.specs.declared.window.Window.{Window}
+use Rattle.ll_wire.specs.Pieces.{pieces}
 use Rattle.ll_wire.specs.Transcript.{Writes}
 use Rattle.ll_steps.specs.declared.setup.WorldSetup.{WorldSetup}
 use Rattle.ll_steps.specs.Told.{IsBegun, IsTold}
@@ -33,23 +38,6 @@ module _ (order : ScheduleOrder) (setup : WorldSetup) (is : IsWorldSetup order s
   unperformed (Err failure) by begun = (by, inr (setup, is, begun))
 
 module _ (order : ScheduleOrder) (out out' : Option (List ℕ)) where
-  -- what was run of a file's whole text was run of the file
-  pub run_of_text : (known : Option (List ℕ)) (text : List ℕ) → IfSome known (λ told. text ≡ told)
-      → RunsSchedule order (Some text) out out' → RunsSchedule order known out out'
-  run_of_text None text h ran = (ran.0, ran.1, tt)
-  run_of_text (Some told) text h ran = subst (λ t. RunsSchedule order (Some t) out out') h ran
-
-  begun_of_text : (known : Option (List ℕ)) (text : List ℕ) → IfSome known (λ told. text ≡ told)
-      → BeginsSchedule order (Some text) out out' → BeginsSchedule order known out out'
-  begun_of_text None text h ran = (ran.0, ran.1, tt)
-  begun_of_text (Some told) text h ran = subst (λ t. BeginsSchedule order (Some t) out out') h ran
-
-  pub failure_of_text : (known : Option (List ℕ)) (text : List ℕ) (failure : Failure)
-      → IfSome known (λ told. text ≡ told) → FailsSchedule order (Some text) out out' failure
-      → FailsSchedule order known out out' failure
-  failure_of_text known text failure h (by, inl none) = (by, inl none)
-  failure_of_text known text failure h (by, inr begun) = (by, inr (begun_of_text known text h begun))
-
   lines_begun : (setup : WorldSetup) (known : Option (List ℕ))
       → IfSome known (λ input. Writes out out' (IsTold setup input))
       → IfSome known (λ input. Writes out out' (IsBegun setup input))
@@ -81,8 +69,15 @@ module _ (order : ScheduleOrder) (out out' : Option (List ℕ)) where
   undrawn_by known (Ok it) ran by = tt
   undrawn_by known (Err failure) ran by = undrawn known failure ran by
 
--- its file can't be read, or nothing is begun
-pub unread_schedule : (order : ScheduleOrder) (text out : Option (List ℕ)) (failure : Failure)
-    → (failure ≡ File) ⊎ (failure ≡ NoMemory) → FailsSchedule order text out out failure
-unread_schedule order text out failure (inl e) = (subst IsOfDevices (sym e) tt, inl refl)
-unread_schedule order text out failure (inr e) = (subst IsOfDevices (sym e) tt, inl refl)
+-- what is drawn of as many lines as the schedule has, within the same window
+pub pictured : {A : Type 0} (r : Result A Failure) (left blank contents : Option (List ℕ)) (window window' : Window)
+    (none lines : ℕ) → none ≡ 0 → window' ≡ window → IfSome left (λ input. lines ≡ none + length (pieces input))
+    → OnOk r ((text : List ℕ) × IsPicture (drawn_of window' lines) text × Appends blank contents text)
+    → IfSome left (λ input. OnOk r ((text : List ℕ) × IsPicture (drawn_of window (length (pieces input))) text
+    × Appends blank contents text))
+pictured r None blank contents window window' none lines e f g h = tt
+pictured r (Some input) blank contents window window' none lines e f g h =
+    let count : lines ≡ length (pieces input) = omega (arith, g, e) in
+    let all : drawn_of window' lines ≡ drawn_of window (length (pieces input)) =
+    ap (λ (w : Window). drawn_of w lines) f ∙ ap (drawn_of window) count in
+    subst (λ (n : ℕ). OnOk r ((text : List ℕ) × IsPicture n text × Appends blank contents text)) all h

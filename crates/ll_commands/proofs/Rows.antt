@@ -1,5 +1,5 @@
 -- Rows of the table, and why there is none.
-use Rattle.std.specs.Prelude.{◌≡◌, ℕ, Bool, List, [], ◌∷◌, ◌++◌, map, length, Option, Some, None, IfSome, refl}
+use Rattle.std.specs.Prelude.{◌≡◌, ℕ, List, [], ◌∷◌, ◌++◌, map, length, Option, Some, None, IfSome, refl}
 use Rattle.std.proofs.Common.{ap, arith, sym, subst, ◌∙◌, append_assoc, inl, inr}
 use Rattle.ll_path.specs.Path.{Path, path_of_text}
 use Rattle.ll_rules.specs.Layer.{Layer}
@@ -12,8 +12,8 @@ use Rattle.ll_program.specs.declared.failure.Failure.TheVariants.{CommandLine, P
 use Rattle.ll_program.specs.declared.failure.Failure.TheVariants.{NoMemory}
 use Rattle.ll_session.specs.declared.setup.Setup.{Setup}
 use Rattle.ll_commands.specs.Opening.{FailsSo, IsStopped}
-use Rattle.ll_commands.specs.Rights.{AreRows, LacksTable, paths_told, table_tree}
-use Rattle.ll_commands.specs.Table.{row_line}
+use Rattle.ll_commands.specs.Rights.{AreRows, LacksTable, paths_told, row_in, table_tree}
+use Rattle.ll_commands.specs.declared.rights.RowStyle.{RowStyle}
 
 pub fails_so : (P Q : Type 0) (f : Failure) → (P → Q) → FailsSo P f → FailsSo Q f
 fails_so P Q CommandLine g p = absurd p
@@ -24,16 +24,16 @@ fails_so P Q Output g p = absurd p
 fails_so P Q Socket g p = absurd p
 fails_so P Q NoMemory g p = tt
 
-module _ (s : State) (domain : List Layer) (layers : Bool) where
-  pub rows_join : (ps qs : List Path) (text rows : List ℕ) → AreRows s domain layers ps text
-      → AreRows s domain layers qs rows → AreRows s domain layers (ps ++ qs) (text ++ rows)
-  rows_join [] qs text rows e more = subst (λ t. AreRows s domain layers qs (t ++ rows)) (sym e) more
+module _ (s : State) (domain : List Layer) (style : RowStyle) where
+  pub rows_join : (ps qs : List Path) (text rows : List ℕ) → AreRows s domain style ps text
+      → AreRows s domain style qs rows → AreRows s domain style (ps ++ qs) (text ++ rows)
+  rows_join [] qs text rows e more = subst (λ t. AreRows s domain style qs (t ++ rows)) (sym e) more
   rows_join (p ∷ ps) qs text rows h more = (
     h.0,
     h.1 ++ rows,
     h.2,
     rows_join ps qs h.1 rows h.3 more,
-    ap (λ t. t ++ rows) h.4 ∙ append_assoc (row_line p h.0 layers) h.1 rows,
+    ap (λ t. t ++ rows) h.4 ∙ append_assoc (row_in style p h.0) h.1 rows,
   )
 
 pub no_words : (words : List (List ℕ)) → [] ≡ map path_of_text words → words ≡ []

@@ -15,6 +15,8 @@ use Rattle.ll_seq.specs.declared.call.Call.TheVariants.{Link, Ruleset, Allow, Co
 use Rattle.ll_seq.specs.State.{State}
 use Rattle.ll_seq.specs.Step.{client_of}
 use Rattle.ll_program.specs.Options.{RightsOrder, TreeOrder, profile_tree}
+use Rattle.ll_program.specs.declared.report.AnswerForm.{AnswerForm}
+use Rattle.ll_program.specs.declared.report.AnswerForm.TheVariants as answers
 use Rattle.ll_program.specs.Paths.{HasBadWord}
 use Rattle.ll_program.specs.Policy.{IsSetup, Lacks}
 use Rattle.ll_program.specs.declared.conclusion.Conclusion.{Conclusion}
@@ -23,19 +25,34 @@ use Rattle.ll_program.specs.declared.failure.Failure.{Failure}
 use Rattle.ll_program.specs.declared.failure.Failure.TheVariants.{CommandLine, Policy, Opening, File, Output, Socket}
 use Rattle.ll_program.specs.declared.failure.Failure.TheVariants.{NoMemory}
 use Rattle.ll_session.specs.declared.setup.Setup.{Setup}
-use Rattle.ll_why.specs.Rights.{AreRights}
-use Rattle.ll_why.specs.declared.rights.PathRights.{PathRights}
+use Rattle.ll_why.specs.Rights.{AreRightsAt}
+use Rattle.ll_why.specs.declared.rights.RightsAt.{RightsAt}
 use Rattle.ll_commands.specs.Opening.{Opens, IsStopped}
 use Rattle.ll_commands.specs.Output.{FailsToTell}
+use Rattle.ll_commands.specs.RightsJson.{path_json}
 use Rattle.ll_commands.specs.Table.{row_line}
+use Rattle.ll_commands.specs.declared.rights.RowStyle.{RowStyle}
+use Rattle.ll_commands.specs.declared.rights.RowStyle.TheVariants.{Line, Json}
 use Rattle.ll_wire.specs.Transcript.{Writes}
 
+abbrev pub style_by : Option AnswerForm → (layers : Bool) → RowStyle
+style_by (Some answers.Json) layers = Json
+style_by form layers = Line layers
+
+-- JSON has each layer always
+abbrev pub style_of : RightsOrder → RowStyle
+style_of order = style_by order.form order.layers
+
+abbrev pub row_in : RowStyle → Path → RightsAt → List ℕ
+row_in (Line layers) path told = row_line path told layers
+row_in Json path told = path_json path told
+
 -- a line for each path, in order
-abbrev pub AreRows : State → List Layer → Bool → List Path → List ℕ → Type 0
-AreRows s domain layers [] text = text ≡ []
-AreRows s domain layers (path ∷ paths) text =
-    (told : PathRights) × (rest : List ℕ) × AreRights s domain path told × AreRows s domain layers paths rest
-    × (text ≡ row_line path told layers ++ rest)
+abbrev pub AreRows : State → List Layer → RowStyle → List Path → List ℕ → Type 0
+AreRows s domain style [] text = text ≡ []
+AreRows s domain style (path ∷ paths) text =
+    (told : RightsAt) × (rest : List ℕ) × AreRightsAt s domain path told × AreRows s domain style paths rest
+    × (text ≡ row_in style path told ++ rest)
 
 abbrev pub target_path : Target → Option Path
 target_path (Good path) = Some path
@@ -81,7 +98,7 @@ table_tree order = profile_tree order.policy order.profile order.nodes
 abbrev pub IsTable : RightsOrder → List ℕ → List ℕ → Type 0
 IsTable order text table =
     (setup : Setup) × (client : ℕ) × (s : State) × IsSetup (table_tree order) text setup × Opens setup client s
-    × AreRows s (client_of s client).domain order.layers (paths_told order.paths setup) table
+    × AreRows s (client_of s client).domain (style_of order) (paths_told order.paths setup) table
 
 -- Why there is no table: a word spells no path; there is no setup; a call that the policy asks for is refused; the file
 -- can't be read; NoMemory
@@ -110,5 +127,5 @@ EndsRights texts order out out' (Err failure) =
     (text : List ℕ) × IfSome (texts (Some order.policy)) (λ told. text ≡ told) × MayFail order text out out' failure
 
 -- the text has a line for each path appended
-abbrev pub AddsRows : State → List Layer → Bool → List Path → (old new : List ℕ) → Type 0
-AddsRows s domain layers paths old new = (rows : List ℕ) × AreRows s domain layers paths rows × (new ≡ old ++ rows)
+abbrev pub AddsRows : State → List Layer → RowStyle → List Path → (old new : List ℕ) → Type 0
+AddsRows s domain style paths old new = (rows : List ℕ) × AreRows s domain style paths rows × (new ≡ old ++ rows)

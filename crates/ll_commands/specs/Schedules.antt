@@ -1,10 +1,12 @@
 -- What the words of a schedule set up, and how it ends. own
-use Rattle.std.specs.Prelude.{◌≡◌, ◌⊎◌, ℕ, true, List, Option, Result, Ok, Err, IfSome, unwrap_or}
+use Rattle.std.specs.Prelude.{◌≡◌, ◌⊎◌, ℕ, true, List, Option, Some, Result, Ok, Err, IfSome, unwrap_or}
+use Rattle.std.specs.Option.{option_map_or}
 use Rattle.ll_steps.specs.declared.setup.WorldSetup.{WorldSetup}
 use Rattle.ll_steps.specs.Told.{IsBegun, IsTold}
 use Rattle.ll_picture.specs.declared.window.Window.{Window}
 use Rattle.ll_program.specs.Failure.{IsOfDevices}
 use Rattle.ll_program.specs.Options.{ScheduleOrder}
+use Rattle.clap.specs.Words.{Text}
 use Rattle.ll_program.specs.Sources.{named}
 use Rattle.ll_program.specs.declared.conclusion.Conclusion.{Conclusion}
 use Rattle.ll_program.specs.declared.conclusion.Conclusion.TheVariants.{Checked, Done, Judged, Stopped}
@@ -20,6 +22,11 @@ pub record IsWorldSetup (order : ScheduleOrder) (setup : WorldSetup) : Type 0 wh
 -- the lines to draw; by default from the first on
 abbrev pub window_of : ScheduleOrder → Window
 window_of order = record { from = unwrap_or order.from 1; to = order.to }
+
+-- the lines to draw, of a schedule that is drawn; of another none
+abbrev pub filmed_of : ScheduleOrder → Window
+filmed_of order =
+    option_map_or (λ (picture : Text). window_of order) order.picture (record { from = 1; to = Some 0 })
 
 -- the schedule with this text, if that is known, was run in the world asked for, and its lines were written
 abbrev pub RunsSchedule : ScheduleOrder → (text out out' : Option (List ℕ)) → Type 0

@@ -9,6 +9,8 @@ use Rattle.ll_path.specs.Path.{Path, path_text}
 use Rattle.ll_why.specs.declared.grants.Grants.{Grants}
 use Rattle.ll_why.specs.declared.grants.Ruled.{Ruled}
 use Rattle.ll_why.specs.declared.rights.PathRights.{PathRights}
+use Rattle.ll_why.specs.declared.rights.RightsAt.{RightsAt}
+use Rattle.ll_why.specs.declared.rights.RightsAt.TheVariants.{Node, New, Nowhere}
 
 -- the tokens, each after a space (32)
 abbrev pub behind : List (List ℕ) → List ℕ
@@ -36,10 +38,30 @@ column_tokens path g =
     codes "|" ∷ (granted_tokens (codes "-") g.free.0
     ++ flat_map (ruled_tokens path) (enumerate_from 0 g.ruled.items))
 
--- the path, the kind of its node, what all layers grant, and, if asked for, a column for each layer
-abbrev pub row_line : Path → PathRights → Bool → List ℕ
-row_line path told layers =
-    path_text path
-    ++ behind (kind_word told.kind ∷ access_text told.rights.0
-    ∷ (if layers then flat_map (column_tokens path) told.layers.items else []))
-    ++ 10 ∷ []
+-- a column for each layer, if asked for
+abbrev pub shown_tokens : Path → PathRights → Bool → List (List ℕ)
+shown_tokens path told layers = if layers then flat_map (column_tokens path) told.layers.items else []
+
+-- the kind of the path's node, and what all layers grant on it
+abbrev pub node_tokens : Path → PathRights → Bool → List (List ℕ)
+node_tokens path told layers = kind_text told.kind ∷ access_text told.rights.0 ∷ shown_tokens path told layers
+
+-- what all layers grant on a new file and on a new directory; the columns are the directory's, which may have all
+-- rights that the file may have
+abbrev pub new_tokens : Path → (file directory : PathRights) → Bool → List (List ℕ)
+new_tokens path file directory layers =
+    codes "missing" ∷ codes "new-file" ∷ access_text file.rights.0
+    ∷ codes "new-dir" ∷ access_text directory.rights.0 ∷ shown_tokens path directory layers
+
+-- there is no directory for a node: what is in its place
+abbrev pub nowhere_tokens : Option Kind → List (List ℕ)
+nowhere_tokens kind = codes "missing" ∷ codes "parent-is" ∷ kind_word kind ∷ []
+
+abbrev pub row_tokens : Path → RightsAt → Bool → List (List ℕ)
+row_tokens path (Node told) layers = node_tokens path told layers
+row_tokens path (New file directory) layers = new_tokens path file directory layers
+row_tokens path (Nowhere kind) layers = nowhere_tokens kind
+
+-- the path, and what all layers grant there
+abbrev pub row_line : Path → RightsAt → Bool → List ℕ
+row_line path told layers = path_text path ++ behind (row_tokens path told layers) ++ 10 ∷ []

@@ -17,7 +17,8 @@ use ll_seq::Call;
 use serde_json::Value;
 use std::alloc::{AllocError, Global};
 
-fn json_string(alloc: Global, told: &str) -> Result<String, AllocError>
+/// Returns the text as a JSON string. Errors: memory ran out.
+pub(crate) fn json_string(alloc: Global, told: &str) -> Result<String, AllocError>
     ensures { IfOk result (λ text. string_bytes text ≡ json_string told.now) }
 {
     let value = Value::String(String::from_str(alloc, told)?);
@@ -54,8 +55,8 @@ fn names_of(alloc: Global, set: Access) -> Result<Vec<String>, AllocError>
     Ok(names)
 }
 
-// The set as a JSON array of its rights' names.
-fn json_names(alloc: Global, set: Access) -> Result<String, AllocError>
+/// Returns the quoted names of the set's rights, with commas between. Errors: memory ran out.
+pub(crate) fn json_names(alloc: Global, set: Access) -> Result<String, AllocError>
     ensures { IfOk result (λ text. string_bytes text ≡ json_names set.0) }
 {
     let names = names_of(alloc, set)?;

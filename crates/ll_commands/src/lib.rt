@@ -20,6 +20,7 @@ mod log;
 mod opening;
 mod port;
 mod rights;
+mod rights_json;
 mod room;
 mod schedules;
 mod served;
@@ -33,13 +34,15 @@ pub use confinement::{Confinement, Flaw, FlawedProfile, LayerFlaw, RuleFlaw};
 pub use exporting::{export, export_checked, exported, flaw_of};
 pub use json::json_text;
 pub use learn::{Learned, learn_history, tell_learned};
+pub use ll_picture::Film;
 pub use log::Log;
 pub use opening::{Opened, open_tree};
 pub use port::{Binds, Listens, Loopback, Missed, Port};
-pub use rights::{rights_table, tell_rights};
+pub use rights::{RowStyle, rights_table, tell_rights};
+pub use rights_json::path_json;
 pub use schedules::{
-    draw_in, draw_over, draw_schedule, explain_schedule, perform_over, perform_schedule, schedule,
-    setup_by, window_by,
+    Drawn, draw_in, draw_over, draw_schedule, film_by, perform_over, perform_schedule, schedule,
+    schedule_drawn, setup_by,
 };
 pub use served::serve;
 pub use table::row_text;

@@ -9,19 +9,53 @@ ghost use Rattle.ll_program.specs.Options.{rights_in};
 ghost use Rattle.ll_path.specs.Path.{path_of_text};
 ghost use Rattle.ll_seq.specs.Step.{client_of};
 ghost use Rattle.ll_commands.specs.Rights.{AddsRows, AreRows, IsTable, LacksTable};
-ghost use Rattle.ll_commands.specs.Rights.{MayFail, made_path, made_paths, paths_told, target_path};
+ghost use Rattle.ll_commands.specs.Rights.{MayFail, made_path, made_paths, paths_told, row_in, style_of, target_path};
 
 use crate::opening::{Opened, open_tree};
+use crate::rights_json::path_json;
 use crate::table::row_text;
 use ll_path::{Path, Target};
 use ll_plain::Plain;
-use ll_program::{Failure, RightsOptions, TreeOptions, paths_of, setup_of, write_text};
+use ll_program::{AnswerForm, Failure, RightsOptions, TreeOptions, paths_of, setup_of, write_text};
 use ll_rules::Domain;
 use ll_seq::Call;
 use ll_session::Setup;
-use ll_why::rights_on;
+use ll_why::{RightsAt, rights_at};
 use std::alloc::{AllocError, Global};
 use std::io::{Read, Write};
+
+/// How the rights at a path are written.
+#[derive(Clone, Copy, Debug, PartialEq, Eq)]
+pub enum RowStyle {
+    /// A line of text, with a column for each layer or without.
+    Line(bool),
+    /// An object of JSON on a line.
+    Json,
+}
+
+fn style_of(options: &RightsOptions) -> RowStyle
+    ensures { result ≡ style_of (rights_in options.now) }
+{
+    match options.form {
+        Some(AnswerForm::Json) => RowStyle::Json,
+        Some(AnswerForm::Text) | None => RowStyle::Line(options.layers),
+    }
+}
+
+// Returns the line of one path.
+fn row_in(
+    alloc: Global,
+    path: &Path,
+    told: &RightsAt,
+    style: RowStyle,
+) -> Result<String, AllocError>
+    ensures { IfOk result (λ text. string_bytes text ≡ row_in style path.now told.now) }
+{
+    match style {
+        RowStyle::Line(layers) => row_text(alloc, path, told, layers),
+        RowStyle::Json => path_json(alloc, path, told),
+    }
+}
 
 fn target_path(target: &Target) -> Option<&Path>
     ensures { option_map (λ p. p.now) result ≡ target_path target.now }
@@ -47,15 +81,15 @@ fn push_row(
     alloc: Global,
     tree: &Plain,
     domain: &Domain,
-    layers: bool,
+    style: RowStyle,
     path: &Path,
     text: &mut String,
 ) -> Result<(), AllocError>
     ensures { OnOk result
-        (AddsRows tree.now domain.now layers (path.now ∷ []) (string_bytes text.old) (string_bytes text.new)) }
+        (AddsRows tree.now domain.now style (path.now ∷ []) (string_bytes text.old) (string_bytes text.new)) }
 {
-    let told = rights_on(alloc, tree, domain, path)?;
-    let row = row_text(alloc, path, &told, layers)?;
+    let told = rights_at(alloc, tree, domain, path)?;
+    let row = row_in(alloc, path, &told, style)?;
     text.push_str(row.as_str())?;
     Ok(())
 }
@@ -65,15 +99,15 @@ fn push_node(
     alloc: Global,
     tree: &Plain,
     domain: &Domain,
-    layers: bool,
+    style: RowStyle,
     call: &Call,
     text: &mut String,
 ) -> Result<(), AllocError>
-    ensures { OnOk result (AddsRows tree.now domain.now layers (option_to_list (made_path call.now))
+    ensures { OnOk result (AddsRows tree.now domain.now style (option_to_list (made_path call.now))
         (string_bytes text.old) (string_bytes text.new)) }
 {
     match made_path(call) {
-        Some(path) => push_row(alloc, tree, domain, layers, path, text),
+        Some(path) => push_row(alloc, tree, domain, style, path, text),
         None => Ok(()),
     }
 }
@@ -83,14 +117,14 @@ fn rows_of_paths(
     alloc: Global,
     tree: &Plain,
     domain: &Domain,
-    layers: bool,
+    style: RowStyle,
     paths: &[Path],
 ) -> Result<String, AllocError>
-    ensures { IfOk result (λ text. AreRows tree.now domain.now layers paths.now (string_bytes text)) }
+    ensures { IfOk result (λ text. AreRows tree.now domain.now style paths.now (string_bytes text)) }
 {
     let mut text = String::new(alloc);
     for path in paths {
-        push_row(alloc, tree, domain, layers, path, &mut text)?;
+        push_row(alloc, tree, domain, style, path, &mut text)?;
     }
     Ok(text)
 }
@@ -100,14 +134,14 @@ fn rows_of_nodes(
     alloc: Global,
     tree: &Plain,
     domain: &Domain,
-    layers: bool,
+    style: RowStyle,
     calls: &[Call],
 ) -> Result<String, AllocError>
-    ensures { IfOk result (λ text. AreRows tree.now domain.now layers (made_paths calls.now) (string_bytes text)) }
+    ensures { IfOk result (λ text. AreRows tree.now domain.now style (made_paths calls.now) (string_bytes text)) }
 {
     let mut text = String::new(alloc);
     for call in calls {
-        push_node(alloc, tree, domain, layers, call, &mut text)?;
+        push_node(alloc, tree, domain, style, call, &mut text)?;
     }
     Ok(text)
 }
@@ -117,14 +151,14 @@ fn rows_of_loader(
     alloc: Global,
     tree: &Plain,
     domain: &Domain,
-    layers: bool,
+    style: RowStyle,
     loader: &Option<Vec<Call>>,
 ) -> Result<String, AllocError>
-    ensures { IfOk result (λ text. AreRows tree.now domain.now layers
+    ensures { IfOk result (λ text. AreRows tree.now domain.now style
         (option_map_or (λ calls. made_paths calls.items) loader.now []) (string_bytes text)) }
 {
     match loader {
-        Some(calls) => rows_of_nodes(alloc, tree, domain, layers, calls.as_slice()),
+        Some(calls) => rows_of_nodes(alloc, tree, domain, style, calls.as_slice()),
         None => Ok(String::new(alloc)),
     }
 }
@@ -135,19 +169,19 @@ fn rows_told(
     opened: &Opened,
     setup: &Setup,
     paths: &[Path],
-    layers: bool,
+    style: RowStyle,
 ) -> Result<String, AllocError>
     ensures { IfOk result (λ text. (words : List (List ℕ)) → paths.now ≡ map path_of_text words
-        → AreRows opened.now.tree (client_of opened.now.tree opened.now.client).domain layers
+        → AreRows opened.now.tree (client_of opened.now.tree opened.now.client).domain style
         (paths_told words setup.now) (string_bytes text)) }
 {
     let Some(client) = opened.tree.client(opened.client) else {
         unreachable!()
     };
     if paths.is_empty() {
-        rows_of_loader(alloc, &opened.tree, &client.domain, layers, &setup.loader)
+        rows_of_loader(alloc, &opened.tree, &client.domain, style, &setup.loader)
     } else {
-        rows_of_paths(alloc, &opened.tree, &client.domain, layers, paths)
+        rows_of_paths(alloc, &opened.tree, &client.domain, style, paths)
     }
 }
 
@@ -179,7 +213,7 @@ pub fn rights_table<R: Read>(
         Ok(opened) => opened,
         Err(failure) => return Err(failure),
     };
-    match rows_told(alloc, &opened, &setup, paths.as_slice(), options.layers) {
+    match rows_told(alloc, &opened, &setup, paths.as_slice(), style_of(options)) {
         Ok(text) => Ok(text),
         Err(_) => Err(Failure::NoMemory),
     }

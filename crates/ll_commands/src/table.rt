@@ -2,13 +2,14 @@
 
 ghost use Rattle.std.specs.Prelude.{◌≡◌, ◌∷◌, ◌++◌, [], codes, take, string_bytes, IfOk, OnOk, if◌then◌else◌};
 ghost use Rattle.std.specs.List.{enumerate_from, flat_map};
+ghost use Rattle.ll_rights.specs.Access.{access_text};
 ghost use Rattle.ll_path.specs.Path.{path_text};
-ghost use Rattle.ll_commands.specs.Table.{behind, column_tokens, granted_tokens, kind_word, parted, row_line};
-ghost use Rattle.ll_commands.specs.Table.{ruled_tokens};
+ghost use Rattle.ll_commands.specs.Table.{behind, column_tokens, granted_tokens, kind_word, new_tokens, node_tokens};
+ghost use Rattle.ll_commands.specs.Table.{nowhere_tokens, parted, row_line, row_tokens, ruled_tokens, shown_tokens};
 
 use ll_path::Path;
 use ll_rights::{Access, Kind};
-use ll_why::{Grants, PathRights, Ruled};
+use ll_why::{Grants, PathRights, RightsAt, Ruled};
 use std::alloc::{AllocError, Global};
 
 fn push_token(text: &mut String, token: &str) -> Result<(), AllocError>
@@ -37,8 +38,8 @@ fn push_name(text: &mut String, before: usize, name: &str) -> Result<(), AllocEr
     text.push_str(name)
 }
 
-// Returns the text of the node with this many of the path's names.
-fn upper_text(alloc: Global, path: &Path, count: usize) -> Result<String, AllocError>
+/// Returns the text of the node with this many of the path's names. Errors: memory ran out.
+pub(crate) fn upper_text(alloc: Global, path: &Path, count: usize) -> Result<String, AllocError>
     ensures { IfOk result (λ text. string_bytes text ≡ path_text (take count path.now)) }
 {
     let mut text = String::from_str(alloc, "/")?;
@@ -50,6 +51,21 @@ fn upper_text(alloc: Global, path: &Path, count: usize) -> Result<String, AllocE
         push_name(&mut text, place, name)?;
     }
     Ok(text)
+}
+
+// Appends a word, and the rights.
+fn push_rights(
+    alloc: Global,
+    text: &mut String,
+    word: &str,
+    rights: Access,
+) -> Result<(), AllocError>
+    ensures { OnOk result (string_bytes text.new
+        ≡ string_bytes text.old ++ behind (word.now ∷ access_text rights.0 ∷ [])) }
+{
+    let names = rights.text(alloc)?;
+    push_token(text, word)?;
+    push_token(text, names.as_str())
 }
 
 // Appends what grants the rights, and the rights, if there are any.
@@ -65,9 +81,7 @@ fn push_granted(
     if rights.0 == 0 {
         return Ok(());
     }
-    let names = rights.text(alloc)?;
-    push_token(text, by)?;
-    push_token(text, names.as_str())
+    push_rights(alloc, text, by, rights)
 }
 
 // Appends what the rule on the node with this many of the path's names allows.
@@ -137,34 +151,92 @@ fn push_columns_if(
     alloc: Global,
     text: &mut String,
     path: &Path,
-    layers: &[Grants],
+    told: &PathRights,
     shown: bool,
 ) -> Result<(), AllocError>
-    ensures { OnOk result (string_bytes text.new ≡ string_bytes text.old
-        ++ behind (if shown then flat_map (column_tokens path.now) layers.now else [])) }
+    ensures { OnOk result (string_bytes text.new
+        ≡ string_bytes text.old ++ behind (shown_tokens path.now told.now shown)) }
 {
     if shown {
-        push_columns(alloc, text, path, layers)
+        push_columns(alloc, text, path, told.layers.as_slice())
     } else {
         Ok(())
     }
 }
 
+// Appends the kind of the path's node, the rights on it, and the layers' columns.
+fn push_node(
+    alloc: Global,
+    text: &mut String,
+    path: &Path,
+    told: &PathRights,
+    layers: bool,
+) -> Result<(), AllocError>
+    ensures { OnOk result (string_bytes text.new
+        ≡ string_bytes text.old ++ behind (node_tokens path.now told.now layers)) }
+{
+    push_rights(alloc, text, told.kind.text(), told.rights)?;
+    push_columns_if(alloc, text, path, told, layers)
+}
+
+// Appends the rights on a new file and on a new directory, and the layers' columns for the directory.
+fn push_new(
+    alloc: Global,
+    text: &mut String,
+    path: &Path,
+    file: &PathRights,
+    directory: &PathRights,
+    layers: bool,
+) -> Result<(), AllocError>
+    ensures { OnOk result (string_bytes text.new
+        ≡ string_bytes text.old ++ behind (new_tokens path.now file.now directory.now layers)) }
+{
+    push_token(text, "missing")?;
+    push_rights(alloc, text, "new-file", file.rights)?;
+    push_rights(alloc, text, "new-dir", directory.rights)?;
+    push_columns_if(alloc, text, path, directory, layers)
+}
+
+// Appends that no node can be created there, and what is there in place of its directory.
+fn push_nowhere(text: &mut String, kind: Option<Kind>) -> Result<(), AllocError>
+    ensures { OnOk result (string_bytes text.new
+        ≡ string_bytes text.old ++ behind (nowhere_tokens kind)) }
+{
+    push_token(text, "missing")?;
+    push_token(text, "parent-is")?;
+    push_token(text, kind_word(kind))
+}
+
+// Appends what there is at the path.
+fn push_told(
+    alloc: Global,
+    text: &mut String,
+    path: &Path,
+    told: &RightsAt,
+    layers: bool,
+) -> Result<(), AllocError>
+    ensures { OnOk result (string_bytes text.new
+        ≡ string_bytes text.old ++ behind (row_tokens path.now told.now layers)) }
+{
+    match told {
+        RightsAt::Node(told) => push_node(alloc, text, path, told, layers),
+        RightsAt::New(file, directory) => push_new(alloc, text, path, file, directory, layers),
+        RightsAt::Nowhere(kind) => push_nowhere(text, *kind),
+    }
+}
+
 /// Returns the path's line of the table: its kind, the rights that all layers grant, and, if asked for, a column for
-/// each layer. Errors: memory ran out.
+/// each layer; for a missing node, what new ones would be granted. Errors: memory ran out.
 pub fn row_text(
     alloc: Global,
     path: &Path,
-    told: &PathRights,
+    told: &RightsAt,
     layers: bool,
 ) -> Result<String, AllocError>
     ensures { IfOk result (λ text. string_bytes text ≡ row_line path.now told.now layers) }
 {
     let mut text = String::from_str(alloc, path.as_str())?;
-    push_token(&mut text, kind_word(told.kind))?;
-    let rights = told.rights.text(alloc)?;
-    push_token(&mut text, rights.as_str())?;
-    push_columns_if(alloc, &mut text, path, told.layers.as_slice(), layers)?;
+    push_told(alloc, &mut text, path, told, layers)?;
     text.push_str("\n")?;
     Ok(text)
 }

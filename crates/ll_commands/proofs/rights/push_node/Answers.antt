@@ -9,11 +9,11 @@ use Rattle.ll_commands.proofs.rights.push_node.Goals as goal
 pub returns-in-Some : goal.returns-in-Some
 returns-in-Some c =
     on_ok c.push_row.result _ _ c.push_row.ensures (λ adds. subst (λ (o : Option Path). AddsRows c.args.tree.now
-    c.args.domain.now c.args.layers (option_to_list o) (string_bytes c.args.text.now)
+    c.args.domain.now c.args.style (option_to_list o) (string_bytes c.args.text.now)
     (string_bytes c.push_row.new.text)) c.in-Some.ensures adds)
 
 pub returns-in-None : goal.returns-in-None
 returns-in-None c =
-    subst (λ (o : Option Path). AddsRows c.args.tree.now c.args.domain.now c.args.layers (option_to_list o)
+    subst (λ (o : Option Path). AddsRows c.args.tree.now c.args.domain.now c.args.style (option_to_list o)
     (string_bytes c.args.text.now) (string_bytes c.args.text.now)) c.in-None.ensures
     ([], refl, sym (append-nil (string_bytes c.args.text.now)))

@@ -1,9 +1,12 @@
-use Rattle.std.proofs.Common.{List, ℕ, map, ap, subst, ◌∙◌}
+use Rattle.std.proofs.Common.{List, ℕ, map, ap, subst, ◌∙◌, string_bytes}
 use Rattle.std.specs.Borrow.{Bor}
 use Rattle.ll_path.specs.Path.{path_of_text}
 use Rattle.ll_program.specs.Options.{TreeOrder, rights_in}
 use Rattle.ll_program.specs.Paths.{HasBadWord}
 use Rattle.ll_program.specs.Policy.{IsSetup, Lacks}
+use Rattle.ll_seq.specs.Step.{client_of}
+use Rattle.ll_commands.specs.Rights.{AreRows, paths_told}
+use Rattle.ll_commands.specs.declared.rights.RowStyle.{RowStyle}
 use Rattle.ll_commands.proofs.Rows.{by_opening, by_setup, by_words, left}
 use Rattle.ll_commands.proofs.rights.rights_table.Goals as goal
 
@@ -50,6 +53,9 @@ returns-in-Ok-rows_told-clause-table g c =
         c.in-Ok-open_tree.opened.tree,
         subst (λ (o : TreeOrder). IsSetup o s.0 c.in-Ok-setup_of.setup) c.of_profile.ensures s.2,
         c.in-Ok-open_tree.ensures.ok,
-        c.in-Ok-rows_told.ensures order.paths told,
+        subst (λ (style : RowStyle). AreRows c.in-Ok-open_tree.opened.tree
+            (client_of c.in-Ok-open_tree.opened.tree c.in-Ok-open_tree.opened.client).domain style
+            (paths_told order.paths c.in-Ok-setup_of.setup) (string_bytes c.in-Ok-rows_told.text))
+            c.style_of.ensures (c.in-Ok-rows_told.ensures order.paths told),
       ),
     )

@@ -22,13 +22,13 @@ loop-call-preserved c =
     ∙ ap (λ l. made_paths (take i calls) ++ l) (append-nil one) in
     let adds = c.in_ok-push_node.ensures in
     record {
-      so_far = subst (λ ps. AreRows s domain c.args.layers ps (string_bytes c.push_node.new.text)) (sym more)
-          (subst (λ t. AreRows s domain c.args.layers (made_paths (take i calls) ++ one) t) (sym adds.2)
-          (rows_join s domain c.args.layers (made_paths (take i calls)) one (string_bytes c.loop-call.text) adds.0
+      so_far = subst (λ ps. AreRows s domain c.args.style ps (string_bytes c.push_node.new.text)) (sym more)
+          (subst (λ t. AreRows s domain c.args.style (made_paths (take i calls) ++ one) t) (sym adds.2)
+          (rows_join s domain c.args.style (made_paths (take i calls)) one (string_bytes c.loop-call.text) adds.0
           c.loop-call.invariant.so_far adds.1));
     }
 
 pub returns : goal.returns
-returns c = subst (λ (l : List Call). AreRows c.args.tree.now c.args.domain.now c.args.layers (made_paths l)
+returns c = subst (λ (l : List Call). AreRows c.args.tree.now c.args.domain.now c.args.style (made_paths l)
     (string_bytes c.loop-call.text)) (take_all c.loop-call.call-index c.args.calls.now c.loop-call-test.false)
     c.loop-call.invariant.so_far

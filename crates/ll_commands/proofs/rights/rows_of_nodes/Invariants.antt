@@ -5,5 +5,5 @@ use Rattle.ll_commands.proofs.rights.rows_of_nodes.Given as goal
 -- so far
 abbrev pub invariant-loop-call : goal.invariant-loop-call
 invariant-loop-call l = record {
-  so_far : AreRows l.tree l.domain l.layers (made_paths (take l.call-index l.calls)) (string_bytes l.text);
+  so_far : AreRows l.tree l.domain l.style (made_paths (take l.call-index l.calls)) (string_bytes l.text);
 }

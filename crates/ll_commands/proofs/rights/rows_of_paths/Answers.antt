@@ -15,12 +15,12 @@ loop-path-preserved c =
     take_more paths i path c.loop-path-test.true ∙ ap (λ p. take i paths ++ p ∷ []) (sym c.path-item.is) in
     let adds = c.in_ok-push_row.ensures in
     record {
-      so_far = subst (λ ps. AreRows s domain c.args.layers ps (string_bytes c.push_row.new.text)) (sym last)
-          (subst (λ t. AreRows s domain c.args.layers (take i paths ++ path ∷ []) t) (sym adds.2)
-          (rows_join s domain c.args.layers (take i paths) (path ∷ []) (string_bytes c.loop-path.text) adds.0
+      so_far = subst (λ ps. AreRows s domain c.args.style ps (string_bytes c.push_row.new.text)) (sym last)
+          (subst (λ t. AreRows s domain c.args.style (take i paths ++ path ∷ []) t) (sym adds.2)
+          (rows_join s domain c.args.style (take i paths) (path ∷ []) (string_bytes c.loop-path.text) adds.0
           c.loop-path.invariant.so_far adds.1));
     }
 
 pub returns : goal.returns
-returns c = subst (λ ps. AreRows c.args.tree.now c.args.domain.now c.args.layers ps (string_bytes c.loop-path.text))
+returns c = subst (λ ps. AreRows c.args.tree.now c.args.domain.now c.args.style ps (string_bytes c.loop-path.text))
     (take_all c.loop-path.path-index c.args.paths.now c.loop-path-test.false) c.loop-path.invariant.so_far

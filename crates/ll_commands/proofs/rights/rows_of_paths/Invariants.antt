@@ -5,5 +5,5 @@ use Rattle.ll_commands.proofs.rights.rows_of_paths.Given as goal
 -- so far
 abbrev pub invariant-loop-path : goal.invariant-loop-path
 invariant-loop-path l = record {
-  so_far : AreRows l.tree l.domain l.layers (take l.path-index l.paths) (string_bytes l.text);
+  so_far : AreRows l.tree l.domain l.style (take l.path-index l.paths) (string_bytes l.text);
 }

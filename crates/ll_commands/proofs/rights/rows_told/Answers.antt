@@ -17,8 +17,8 @@ returns-then-is_empty c =
     let who = ap (λ (o : Option ClientRecord). (unwrap_or o new_client).domain) c.in-Some.ensures in
     let none = empty_is paths (eqb-true _ _ (sym c.if-is_empty.ensures)) in
     IfOk-weaker c.rows_of_loader.result _ _ (λ text rows words is.
-    subst (λ (d : List Layer). AreRows s d c.args.layers (paths_told words c.args.setup.now) (string_bytes text)) who
-    (subst (λ (ps : List Path). AreRows s c.in-Some.client.now.domain c.args.layers ps (string_bytes text))
+    subst (λ (d : List Layer). AreRows s d c.args.style (paths_told words c.args.setup.now) (string_bytes text)) who
+    (subst (λ (ps : List Path). AreRows s c.in-Some.client.now.domain c.args.style ps (string_bytes text))
     (told_nodes words paths c.args.setup.now none is) rows)) c.rows_of_loader.ensures
 
 pub returns-else-is_empty : goal.returns-else-is_empty
@@ -28,8 +28,8 @@ returns-else-is_empty c =
     let who = ap (λ (o : Option ClientRecord). (unwrap_or o new_client).domain) c.in-Some.ensures in
     let some = eqb-false _ _ (sym c.if-is_empty.ensures) in
     IfOk-weaker c.rows_of_paths.result _ _ (λ text rows words is.
-    subst (λ (d : List Layer). AreRows s d c.args.layers (paths_told words c.args.setup.now) (string_bytes text)) who
-    (subst (λ (ps : List Path). AreRows s c.in-Some.client.now.domain c.args.layers ps (string_bytes text))
+    subst (λ (d : List Layer). AreRows s d c.args.style (paths_told words c.args.setup.now) (string_bytes text)) who
+    (subst (λ (ps : List Path). AreRows s c.in-Some.client.now.domain c.args.style ps (string_bytes text))
     (told_words words paths c.args.setup.now some is) rows)) c.rows_of_paths.ensures
 
 pub unreachable-requires : goal.unreachable-requires
