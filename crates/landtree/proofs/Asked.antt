@@ -2,9 +2,9 @@
 use Rattle.std.specs.Prelude.{◌≡◌, ℕ, Bool, true, false, List, Option, Some, None, Result, Err, refl}
 use Rattle.std.proofs.Common.{inl, inr}
 use Rattle.std.proofs.KnownBytes.{Keeps-refl}
-use Rattle.ll_program.specs.Options.{LearnOrder, Lesson, Order, fits, fits_check, fits_export, fits_schedule}
-use Rattle.ll_program.specs.Options.{fits_serve, fits_why, lessons_by, of_checks, of_history, to_audit, to_check}
-use Rattle.ll_program.specs.Options.{to_export, to_learn, to_rights, to_run, to_schedule, to_serve, to_why}
+use Rattle.ll_program.specs.Options.{LearnOrder, Lesson, Order, fits, fits_check, fits_export, fits_rights}
+use Rattle.ll_program.specs.Options.{fits_schedule, fits_serve, fits_why, lessons_by, of_checks, of_history, to_audit}
+use Rattle.ll_program.specs.Options.{to_check, to_export, to_learn, to_rights, to_run, to_schedule, to_serve, to_why}
 use Rattle.ll_program.specs.declared.conclusion.Conclusion.{Conclusion}
 use Rattle.ll_program.specs.declared.failure.Failure.{Failure}
 use Rattle.ll_program.specs.declared.failure.Failure.TheVariants.{CommandLine, NoMemory}
@@ -38,7 +38,7 @@ module _ (texts : Option (List ℕ) → Option (List ℕ)) (out : Option (List �
   no_end (to_run order) = starved_fitting (fits order) _ out (λ fit. inl (tt, refl))
   no_end (to_audit file) = refl
   no_end (to_schedule order) = starved_fitting (fits_schedule order) _ out (λ fit. (tt, inl refl))
-  no_end (to_rights order) = no_rights texts out order
+  no_end (to_rights order) = starved_fitting (fits_rights order) _ out (λ fit. no_rights texts out order)
   no_end (to_check order) =
       starved_fitting (fits_check order) _ out (λ fit.
       (unread texts order NoMemory (inr refl), none_written texts order out NoMemory))

@@ -4,7 +4,7 @@ ghost use Rattle.std.specs.Prelude.{◌≡◌, ℕ, true, false, List, Option, N
 ghost use Rattle.std.specs.Prelude.{OnOk, option_map};
 ghost use Rattle.std.specs.Io.KnownBytes.{Appends};
 ghost use Rattle.ll_program.specs.Sources.{named, text_in};
-ghost use Rattle.ll_program.specs.Options.{asked_by, fits, fits_schedule, fits_why};
+ghost use Rattle.ll_program.specs.Options.{asked_by, fits, fits_rights, fits_schedule, fits_why};
 ghost use Rattle.ll_program.specs.Options.{fits_serve, order_in, rights_in, scheduled_in, served_in, why_in};
 ghost use Rattle.ll_program.specs.Failure.{EndsAudit, FailsAudit};
 ghost use Rattle.ll_program.specs.Policy.{EndsRun, IsRun, MayFail};
@@ -21,13 +21,11 @@ use crate::misfits::Misfit;
 use ll_audit::Verdict;
 use ll_check::LinesOf;
 use ll_commands::{
-    Binds, Log, draw_in, explain_schedule, schedule, serve, setup_by, tell_rights, tell_why,
-    window_by,
+    Binds, Film, Log, film_by, schedule, schedule_drawn, serve, tell_rights, tell_why,
 };
 use ll_program::{
     Clash, Conclusion, Device, Failure, Late, NewFile, Purpose, Question, RightsOptions,
-    RunOptions, ScheduleOptions, ServeOptions, Shown, Sources, WhyOptions, audit, named, read_text,
-    run,
+    RunOptions, ScheduleOptions, ServeOptions, Shown, Sources, WhyOptions, audit, named, run,
 };
 use ll_wire::Destination;
 use std::alloc::Global;
@@ -182,41 +180,38 @@ pub fn audit_file<S: Sources, W: Write>(
     }
 }
 
-// Adds hints on which lines of a schedule spell no step, why steps couldn't be made, and which walks are under way at
-// its end.
-fn hint_at_steps(rt: &HostRuntime, options: &ScheduleOptions, text: &[u8], hints: &mut Hints) {
-    hints.of_bad_lines(LinesOf::Schedule, options.file, text);
-    if let Some(reasons) = explain_schedule(rt.alloc(), setup_by(options), text) {
+// Adds hints on why steps of a schedule couldn't be made, and which walks are under way at its end.
+fn hint_at_steps(film: &Film, hints: &mut Hints) {
+    if let Some(reasons) = film.reasons() {
         hints.add(&reasons);
     }
 }
 
-// Runs a schedule, and adds hints.
-fn perform_and_tell<S: Sources, W: Write>(
+// Runs the schedule in this input, and adds hints.
+fn perform_told<R: Read, W: Write>(
     rt: &HostRuntime,
-    sources: &S,
     options: &ScheduleOptions,
+    input: &mut R,
     out: &mut W,
     hints: &mut Hints,
 ) -> Result<(), Failure>
-    ensures told { OnOk result (RunsSchedule (scheduled_in options.now)
-        (S.texts sources.now (named (scheduled_in options.now).file)) (W.contents out.old) (W.contents out.new)) }
-    ensures failure { IfErr result (FailsSchedule (scheduled_in options.now)
-        (S.texts sources.now (named (scheduled_in options.now).file)) (W.contents out.old) (W.contents out.new)) }
+    ensures told { OnOk result (RunsSchedule (scheduled_in options.now) (R.remaining input.old)
+        (W.contents out.old) (W.contents out.new)) }
+    ensures failure { IfErr result (FailsSchedule (scheduled_in options.now) (R.remaining input.old)
+        (W.contents out.old) (W.contents out.new)) }
 {
-    let mut file = Late::keeping(rt.alloc(), sources, named(options.file), hints.are_wanted());
-    let ended = schedule(rt.alloc(), options, &mut file, out);
-    hints.of_input("schedule", &file);
-    if ended.is_ok()
-        && let Some(text) = file.text()
-    {
-        hint_at_steps(rt, options, text, hints);
+    let film = film_by(rt.alloc(), options, hints.are_wanted());
+    match schedule(rt.alloc(), options, input, out, film) {
+        Ok(film) => {
+            hint_at_steps(&film, hints);
+            Ok(())
+        }
+        Err(failure) => Err(failure),
     }
-    ended
 }
 
-// Reads a schedule whole, runs it, and draws it into the file with this name.
-fn perform_and_draw<R: Read, W: Write>(
+// Runs the schedule in this input, draws it into the file with this name, and adds hints.
+fn perform_drawn<R: Read, W: Write>(
     rt: &HostRuntime,
     options: &ScheduleOptions,
     input: &mut R,
@@ -229,26 +224,38 @@ fn perform_and_draw<R: Read, W: Write>(
     ensures failure { IfErr result (FailsSchedule (scheduled_in options.now) (R.remaining input.old)
         (W.contents out.old) (W.contents out.new)) }
 {
-    let text = match read_text(rt.alloc(), input) {
-        Ok(text) => text,
-        Err(failure) => return Err(failure),
-    };
-    let mut lines = text.as_slice();
-    match schedule(rt.alloc(), options, &mut lines, out) {
-        Ok(()) => {}
-        Err(failure) => return Err(failure),
+    let mut picture = NewFile::new(rt, path, "picture", false);
+    let film = film_by(rt.alloc(), options, hints.are_wanted());
+    match schedule_drawn(rt.alloc(), options, input, out, film, &mut picture) {
+        Ok(drawn) => {
+            hints.of_output(&picture);
+            hint_at_steps(&drawn.film, hints);
+            drawn.saved
+        }
+        Err(failure) => Err(failure),
     }
-    let mut file = NewFile::new(rt, path, "picture", false);
-    let (setup, window) = (setup_by(options), window_by(options));
-    let drawn = draw_in(rt.alloc(), setup, window, text.as_slice(), &mut file);
-    hints.of_output(&file);
-    if hints.are_wanted() {
-        hint_at_steps(rt, options, text.as_slice(), hints);
-    }
-    drawn
 }
 
-// Runs a schedule, and draws it if a file is named.
+// Runs the schedule in this input, and draws it if a file is named.
+fn perform_input<R: Read, W: Write>(
+    rt: &HostRuntime,
+    options: &ScheduleOptions,
+    input: &mut R,
+    out: &mut W,
+    hints: &mut Hints,
+) -> Result<(), Failure>
+    ensures told { OnOk result (RunsSchedule (scheduled_in options.now) (R.remaining input.old)
+        (W.contents out.old) (W.contents out.new)) }
+    ensures failure { IfErr result (FailsSchedule (scheduled_in options.now) (R.remaining input.old)
+        (W.contents out.old) (W.contents out.new)) }
+{
+    match options.picture {
+        Some(path) => perform_drawn(rt, options, input, path, out, hints),
+        None => perform_told(rt, options, input, out, hints),
+    }
+}
+
+// Runs the schedule that the words name. Adds hints, also on lines that spell no step.
 fn perform_file<S: Sources, W: Write>(
     rt: &HostRuntime,
     sources: &S,
@@ -261,12 +268,14 @@ fn perform_file<S: Sources, W: Write>(
     ensures failure { IfErr result (FailsSchedule (scheduled_in options.now)
         (S.texts sources.now (named (scheduled_in options.now).file)) (W.contents out.old) (W.contents out.new)) }
 {
-    let Some(path) = options.picture else {
-        return perform_and_tell(rt, sources, options, out, hints);
-    };
-    let mut file = Late::new(sources, named(options.file));
-    let ended = perform_and_draw(rt, options, &mut file, path, out, hints);
+    let mut file = Late::keeping(rt.alloc(), sources, named(options.file), hints.are_wanted());
+    let ended = perform_input(rt, options, &mut file, out, hints);
     hints.of_input("schedule", &file);
+    if ended.is_ok()
+        && let Some(text) = file.text()
+    {
+        hints.of_bad_lines(LinesOf::Schedule, options.file, text);
+    }
     ended
 }
 
@@ -338,9 +347,15 @@ pub fn rights_options<S: Sources, W: Write>(
     out: &mut W,
     hints: &mut Hints,
 ) -> Result<Conclusion, Failure>
-    ensures { EndsRights (S.texts sources.now) (rights_in options.now) (W.contents out.old) (W.contents out.new)
-        result }
+    ensures unfit { fits_rights (rights_in options.now) ≡ false
+        → (result ≡ Err Failure.CommandLine) × (W.contents out.new ≡ W.contents out.old) }
+    ensures rights { fits_rights (rights_in options.now) ≡ true
+        → EndsRights (S.texts sources.now) (rights_in options.now) (W.contents out.old) (W.contents out.new) result }
 {
+    if !options.fit() {
+        hints.of_misfit(Some(Misfit::NoSuchAnswer));
+        return Err(Failure::CommandLine);
+    }
     let ended = tell_file(rt, sources, options, out, hints);
     if ended.is_err() {
         hints.of_misfit(Misfit::of_rights(rt.alloc(), options));

@@ -31,6 +31,8 @@ pub enum Misfit<'a> {
     ExactBestEffort,
     /// The path after this option isn't absolute.
     RelativePath(&'static str, &'a str),
+    /// The form of an answer.
+    NoSuchAnswer,
     /// This word of `rights` is no path.
     NoPath(&'a str),
     /// The words of `why` give neither an entry nor a command.
@@ -79,6 +81,7 @@ impl Display for Misfit<'_> {
                 f,
                 "{word} is no path: / is expected, or / and a name again and again"
             ),
+            Misfit::NoSuchAnswer => f.write_str("--as is followed by json"),
             Misfit::NoSuchForm => f.write_str("--as is followed by c or json"),
             Misfit::NoSuchDenial => f.write_str(
                 "--deny is followed by some of tcp,ioctl_dev,signal,abstract_unix_socket",

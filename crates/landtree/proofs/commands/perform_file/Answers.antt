@@ -8,7 +8,7 @@ pub returns-clause-told : goal.returns-clause-told
 returns-clause-told g c =
     let texts = g.S.Sources.texts c.args.sources.now in
     let out = g.W.Write.contents c.args.out.now in
-    let out' = g.W.Write.contents c.perform_and_draw-ended.new.out in
+    let out' = g.W.Write.contents c.perform_input-ended.new.out in
     subst (λ (t : Option (List ℕ)).
-    OnOk c.perform_and_draw-ended.result (RunsSchedule (scheduled_in c.args.options.now) t out out'))
-    (c.new-file.ensures.left ∙ ap texts c.named.ensures) c.perform_and_draw-ended.ensures.told
+    OnOk c.perform_input-ended.result (RunsSchedule (scheduled_in c.args.options.now) t out out'))
+    (c.keeping-file.ensures.left ∙ ap texts c.named.ensures) c.perform_input-ended.ensures.told
