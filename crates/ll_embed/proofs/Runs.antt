@@ -20,7 +20,7 @@ run_fails o setup (Session TooLong) is may long = long refl
 
 pub history_fails : (o : Order) (setup : Setup) (fault : Fault) → IsSetup o setup
     → (fault ≡ faults.NoMemory) ⊎ ((of : RunFault) × runs.MayEnd setup of
-        × (of ≡ Session TooLong → most_reads ≤ length o.script) × (fault ≡ fault_in of))
+    × (of ≡ Session TooLong → most_reads ≤ length o.script) × (fault ≡ fault_in of))
     → MayFail o fault
 history_fails o setup fault is (inl none) = subst (MayFail o) (sym none) tt
 history_fails o setup fault is (inr h) = subst (MayFail o) (sym h.3) (run_fails o setup h.0 is h.1 h.2)

@@ -3,10 +3,10 @@
 ghost use Rattle.std.specs.Prelude.{◌≡◌, ◌+◌, true};
 ghost use Rattle.ll_rights.specs.declared.limits.TheConstants.{TREE_CLIENTS};
 
-use crate::random_calls::{makes_any, makes_top};
-use crate::orders::Orders;
 use crate::aims::TOP;
+use crate::orders::Orders;
 use crate::random::Random;
+use crate::random_calls::{makes_any, makes_top};
 use crate::tally::tell;
 use crate::watch::Watch;
 use ll_audit::audit;
