@@ -11,7 +11,7 @@ import os
 import re
 import subprocess
 from dataclasses import dataclass, field
-from typing import Iterable, List, Optional, Sequence, Union
+from typing import Any, Dict, Iterable, List, Optional, Sequence, Union
 
 from .errors import LandtreeError, ProgramFault, TimedOut
 from .exported import Exported, exported_of
@@ -27,11 +27,17 @@ LEAST = re.compile("# least\\b")
 
 @dataclass(frozen=True)
 class Granted:
-    """The rights that each layer of a profile grants on a path. `kind` is `missing` if nothing is there."""
+    """The rights that each layer of a profile grants on a path. `kind` is `missing` if nothing is there.
+
+    For a missing path there is what a new file and a new directory there would be granted: none where its directory is
+    missing too.
+    """
 
     path: str
     kind: str
     rights: Rights
+    new_file: Rights = Rights.NONE
+    new_dir: Rights = Rights.NONE
 
 
 @dataclass(frozen=True)
@@ -69,13 +75,14 @@ class Why:
 
 @dataclass(frozen=True)
 class Failure:
-    """A test that failed: its file, its line, counted from 1, its command, and the replies."""
+    """A test that failed: its file, its line, counted from 1, its command, the replies, and its section's name."""
 
     file: str
     line: int
     command: str
     expected: str
     got: str
+    section: str = ""
 
 
 @dataclass(frozen=True)
@@ -167,9 +174,8 @@ class Commands:
 
     def rights(self, policy: File, profile: str, *paths: str, nodes: int = 4_096) -> List[Granted]:
         """Returns what a profile grants on these paths, or on each node of the policy."""
-        words = [f"--policy={os.fspath(policy)}", f"--profile={profile}", f"--nodes={nodes}", "--", *paths]
-        rows = [line.split(" ") for line in self.run("rights", *words).splitlines()]
-        return [Granted(path, kind, Rights.parse(rights)) for path, kind, rights in rows]
+        words = [f"--policy={os.fspath(policy)}", f"--profile={profile}", f"--nodes={nodes}", "--as=json", "--", *paths]
+        return [granted_of(json.loads(line)) for line in self.run("rights", *words).splitlines()]
 
     def why(self, policy: File, profile: str, command: str) -> Why:
         """Explains a command under a profile, in a new tree of the policy."""
@@ -252,6 +258,17 @@ def fault_of(ended: "subprocess.CompletedProcess[str]") -> LandtreeError:
     return ProgramFault(ended.returncode, lines[0], "\n".join(lines[1:]))
 
 
+def granted_of(it: Dict[str, Any]) -> Granted:
+    """Returns what an object of `rights --as json` says."""
+    new = {one["kind"]: rights_of(one) for one in it.get("new", [])}
+    none = Rights.NONE
+    return Granted(it["path"], it["kind"] or "missing", rights_of(it), new.get("reg", none), new.get("dir", none))
+
+
+def rights_of(it: Dict[str, Any]) -> Rights:
+    return Rights.parse(",".join(it.get("rights", [])) or "none")
+
+
 def why_of(text: str) -> Why:
     lines = text.splitlines()
     call = next((it for it in lines if not it.startswith("  ")), "")
@@ -265,7 +282,9 @@ def checked_of(report: str, told: str) -> Checked:
     """Returns what a report says: an object for each test, and one with the sums."""
     *tests, sums = [json.loads(line) for line in report.splitlines()]
     failures = [
-        Failure(it["file"], it["line"], it["command"], it["expected"], it["got"]) for it in tests if not it["passes"]
+        Failure(it["file"], it["line"], it["command"], it["expected"], it["got"], it.get("section", ""))
+        for it in tests
+        if not it["passes"]
     ]
     return Checked(sums["passed"], sums["failed"], failures, told)
 

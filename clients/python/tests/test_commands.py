@@ -17,8 +17,9 @@ class Results(Case):
         self.commands = Commands(PROGRAM, timeout=60)
 
     def test_rights(self):
-        rows = self.commands.rights(POLICY, "build", "/src", "/none")
-        self.assertEqual(rows, [Granted("/src", "dir", READ), Granted("/none", "missing", Rights.NONE)])
+        rows = self.commands.rights(POLICY, "build", "/src", "/src/new", "/none/new")
+        new = Granted("/src/new", "missing", Rights.NONE, Rights.READ_FILE, READ)
+        self.assertEqual(rows, [Granted("/src", "dir", READ), new, Granted("/none/new", "missing", Rights.NONE)])
         paths = ["/src", "/src/main.c", "/build", "/keys", "/keys/deploy"]
         self.assertEqual([it.path for it in self.commands.rights(POLICY, "build")], paths)
 
@@ -43,6 +44,11 @@ class Results(Case):
         denied = "denied EACCES layer 1 write_file at"
         failure = Failure(str(file), 1, "open w /src/main.c", "neither refused nor denied", denied)
         self.assertEqual((checked.passed, checked.failed, checked.failures, checked.is_well), (1, 1, [failure], False))
+
+    def test_a_section(self):
+        file = self.put("f.check", "make reg /f\n[one]\nstat /f\n")
+        failure = Failure(str(file), 3, "stat /f", "neither refused nor denied", "refused 3 ENOENT", "one")
+        self.assertEqual(self.commands.check([file]).failures, [failure])
 
     def test_no_test(self):
         checked = self.commands.check([self.put("none.check")], POLICY, "build")

@@ -39,7 +39,8 @@ class Libraries(Case):
         self.assertIn(b"make dir /src", self.library.why_entry(saved, 2).text)
 
     def test_faults(self):
-        for setup in (Setup(nodes=0), Setup(history=1_000_001), Setup(level=4), Setup(profile="build"), Setup("x", "build")):
+        setups = (Setup(nodes=0), Setup(history=1_000_001), Setup(level=4), Setup(profile="build"), Setup("x", "build"))
+        for setup in setups:
             with self.assertRaises(LibraryFault) as raised:
                 self.library.run("", setup)
             self.assertEqual(raised.exception.status, 2)
