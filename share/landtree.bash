@@ -35,7 +35,7 @@ _landtree() {
     run) options="--nodes --abi --history --policy --profile --save --strict --explain --terse --help" ;;
     audit) options="--explain --terse --help" ;;
     schedule) options="--nodes --abi --history --picture --from --to --explain --terse --help" ;;
-    rights) options="--policy --profile --nodes --layers --explain --terse --help" ;;
+    rights) options="--policy --profile --nodes --layers --as --explain --terse --help" ;;
     why) options="--policy --profile --nodes --explain --terse --help" ;;
     learn) options="--policy --history --client --name --never --beneath --most --nodes --explain --terse --help" ;;
     check) options="--nodes --abi --policy --profile --quiet --verbose --as --explain --terse --help" ;;

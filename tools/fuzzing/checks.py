@@ -1,6 +1,7 @@
 """Files of checks that `learn` learns from: under the profile all tests pass, and without any right of it one fails."""
 
 import random
+import re
 from copy import deepcopy
 
 from fuzzing.demands import Demands
@@ -13,6 +14,9 @@ from fuzzing.program import holds, same
 # Parts the scripts of two files.
 NEXT = "# next"
 COMMAND_LINE = "landtree: command line\n"
+# Why a line isn't denied that must be.
+GRANTED = re.compile(r"granted by (\S+) (\w+), needed by (.*)")
+NO_LAYER = "no single layer denies this and lets the others pass"
 # What may have to be denied, of a path.
 ASKING = "open r {}|open w {}|open wt {}|open wc {}/q|truncate {} 0|list {}|exec {}|unlink {}|rmdir {}|make fifo {}/q"
 ASKING = f"{ASKING}|rename {{}} /q|link {{}} /q|exchange {{}} /a".split("|")
@@ -27,6 +31,11 @@ def scripts_of(lines):
         else:
             scripts[-1].append(line)
     return scripts
+
+
+# The commands in which layers have a say.
+DENIABLE = {"make", "open", "ftruncate", "truncate", "list", "exec", "unlink", "rmdir"}
+DENIABLE |= {"rename", "rename_noreplace", "exchange", "link"}
 
 
 def wanted(reply, number):
@@ -150,12 +159,13 @@ def judge_profile(learning, judged, notes):
     if rules > 1:
         many = f"{rules} rules, {rules - 1} may be: --most 256, or --beneath DIR\n"
         learning.wants(2, many + COMMAND_LINE, "--most", str(rules - 1))
-    judge_more(learning, profile)
+    judge_more(learning, judged, notes)
 
 
-def judge_more(learning, profile):
+def judge_more(learning, judged, notes):
     """Lines that must be denied are added to the last file, and such as learning fails by."""
-    case, file, rng = learning.case, learning.files[-1], random.Random(learning.case.text())
+    profile, case, file = judged.profile, learning.case, learning.files[-1]
+    rng = random.Random(learning.case.text())
     tree = file.under(case, profile.layer)
     paths = ["/", *(node.split(" ")[1] for node in case.policy)]
     let_through = []
@@ -168,13 +178,27 @@ def judge_more(learning, profile):
             let_through.append((call, reply))
     file.write()
     same(learning.ran(), (0, profile.text, ""), "what is learned with more lines that must be denied")
-    for call, reply in let_through[:1]:
+    for call, reply in [it for it in let_through if by_client(it[0])[1].split(" ")[0] in DENIABLE][:1]:
         file.write(f"{call} = denied ..")
-        place = f"{file.file}:{len(file.lines) + 1}: {call}"
-        learning.wants(3, f"{place}\nexpected denied ..\ngot {reply}\n")
-    file.write("stat / = ok", "stat / = data ..")
-    learning.wants(3, f"{file.file}:{len(file.lines) + 1}: stat /\nexpected ok\ngot stat 1 dir 0 1\n")
-    file.write("stat / = ok", "stat")
-    status, out, error = learning.ran()
-    is_told = error.startswith(f"{file.file}:{len(file.lines) + 2}:")
-    same((status, out, is_told), (2, "", True), f"how learn ends at a bad line, which writes {error!r:.200}")
+        place = f"{file.file}:{len(file.lines) + 1}: "
+        judge_let_through(learning.ran(), judged, notes, place, f"{place}{call}\nexpected denied ..\ngot {reply}\n")
+    file.write("stat / = refused ..", "stat / = stat 2 ..")
+    learning.wants(3, f"{file.file}:{len(file.lines) + 1}: stat /\nexpected refused ..\ngot stat 1 dir 0 1\n")
+    for bad in ("stat", "stat / = ok"):
+        file.write("stat / = refused ..", bad)
+        status, out, error = learning.ran()
+        is_told = error.startswith(f"{file.file}:{len(file.lines) + 2}:")
+        same((status, out, is_told), (2, "", True), f"how learn ends at a bad line, which writes {error!r:.200}")
+
+
+def judge_let_through(ran, judged, notes, place, head):
+    """A line isn't denied that must be: each right that is said to grant it is in the profile, and needed so."""
+    status, out, error = ran
+    same((status, out, error[: len(head)]), (3, "", head), "how learn ends")
+    for line in error[len(head) :].splitlines():
+        told = GRANTED.fullmatch(line.removeprefix(place))
+        holds(told or line == f"{place}{NO_LAYER}", f"why a line isn't denied: {line!r:.200}")
+        if told:
+            path, right, note = told.groups()
+            needing = [notes[it] for it in judged.failed(path, right)]
+            holds(note in needing, f"{right} on {path} is needed by {note!r}, and not by {needing!r:.300}")

@@ -37,15 +37,31 @@ def judge(program, case):
         judge_checks(program, case, [(line, reply) for line, reply in zip(lines, replies) if reply != BAD])
 
 
+def false_reply(reply):
+    """A reply that any command may get, and that isn't this one."""
+    return "refused 18 ENXIO" if reply == "refused 3 ENOENT" else "refused 3 ENOENT"
+
+
+def never(line):
+    """A reply that no tree gives this command."""
+    name = [it for it in line.split(" ") if not it.startswith("@")][0]
+    return "ok" if name in ("open", "read", "write", "list", "stat", "ruleset", "spawn") else "fd .."
+
+
 def judge_checks(program, case, pairs):
-    """Each third reply is made a false one, and fails; of the others each fourth is told by its first word."""
+    """Each third reply is made a false one, and fails; of the others each fourth is told by its first word. A reply that
+    never comes is a wrong line."""
     if not pairs:
         return
     text = ""
     for number, (line, reply) in enumerate(pairs, 1):
         short = f"{reply.split(' ')[0]} .." if number % 4 == 0 else reply
-        text += f"{line} = {'fd 99' if number % 3 == 0 else short}\n"
+        text += f"{line} = {false_reply(reply) if number % 3 == 0 else short}\n"
     failed = len(pairs) // 3
     words = ["check", "-", "--quiet", "--nodes", str(case.nodes), "--abi", str(case.abi)]
     out = program.lines(*words, text=text, status=3 if failed else 0)
     same(out[-1:], [f"{len(pairs) - failed} passed, {failed} failed"], "the checks")
+    last = pairs[-1][0]
+    status, out, error = program.ran("check", "-", text=f"{text}{last} = {never(last)}\n")
+    same((status, out), (2, ""), "the checks before a vain one")
+    holds("never answers so" in error, f"a vain test is told as {error!r:.200}")
