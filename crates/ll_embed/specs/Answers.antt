@@ -162,7 +162,8 @@ stopped_status (Some stop) = 3
 abbrev pub IsRunTold : Order → (strict : Bool) → (status : ℕ) → (text : List ℕ) → Type 0
 IsRunTold o strict status text =
     (setup : Setup) × (stop : Option Stop) × (entries : List Entry) × IsSetup o setup
-    × IsTextRun strict setup o.script text stop entries × (status ≡ stopped_status stop)
+    × IsTextRun strict setup o.script text stop entries × (strict ≡ false → stop ≡ None)
+    × (status ≡ stopped_status stop)
 
 abbrev pub RunAnswers : Order → (strict : Bool) → (status : ℕ) → (text : List ℕ) → Type 0
 RunAnswers o strict status text =

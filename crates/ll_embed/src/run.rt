@@ -1,6 +1,6 @@
 //! Runs of scripts.
 
-ghost use Rattle.std.specs.Prelude.{◌≡◌, ◌⊎◌, ◌≤◌, ℕ, All, IfErr, IfOk, List, Option, false, length};
+ghost use Rattle.std.specs.Prelude.{◌≡◌, ◌⊎◌, ◌≤◌, ℕ, All, IfErr, IfOk, List, None, Option, false, length};
 ghost use Rattle.ll_embed.specs.Alone.{IsTextRun};
 ghost use Rattle.ll_seq.specs.declared.reply.Entry.{Entry};
 ghost use Rattle.ll_session.specs.Run.{MayEnd};
@@ -39,6 +39,7 @@ fn status_of_stop(stop: &Option<Stop>) -> u32
 fn run(alloc: Global, given: &Given<'_>, is_strict: bool) -> Result<TextRun, Fault>
     ensures ran { IfOk result (λ ran. (setup : Setup) × IsSetup (order_in given.now) setup
         × IsTextRun is_strict setup given.now.script.now ran.text.items ran.run.stop ran.run.history.entries) }
+    ensures lax { IfOk result (λ ran. is_strict ≡ false → ran.run.stop ≡ None) }
     ensures entries { IfOk result (λ ran. All IsEntry ran.run.history.entries) }
     ensures fault { IfErr result (MayFail (order_in given.now)) }
 {
