@@ -127,7 +127,7 @@ impl Frame {
 }
 
 /// Learns one layer from histories of trees created with this header. Learns from the entries after the client's first
-/// connect; up to there, all histories must be equal. Errors: the first fault.
+/// connect; up to there, all histories must be equal. Errors: a fault that holds.
 pub fn learn(
     alloc: Global,
     header: &Header,
