@@ -5,6 +5,7 @@ pub mod LentContents
 pub mod NamesMarked
 pub mod Nearing
 pub mod NextSteps
+pub mod Paces
 pub mod Reading
 pub mod Reasons
 pub mod ReasonsFound

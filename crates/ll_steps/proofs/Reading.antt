@@ -1,19 +1,17 @@
--- What is told of a piece, as its line was read.
-use Rattle.std.proofs.Common.{◌≡◌, ℕ, ◌≤◌, true, List, Option, None, Err, arith, inl, inr, subst, sym}
+-- The outcome of a piece, as its line was read.
+use Rattle.std.proofs.Common.{◌≡◌, ℕ, ◌≤◌, true, List, Option, None, Ok, Err, arith, inl, inr, subst, sym}
 use Rattle.std.specs.Prelude.{IfSome}
 use Rattle.ll_rights.specs.declared.errno.Errno.{Errno}
 use Rattle.ll_rights.specs.declared.errno.Errno.TheVariants.{BadLine}
 use Rattle.ll_rights.specs.Map.{len}
-use Rattle.ll_seq.specs.declared.reply.Reply.TheVariants.{Refused}
 use Rattle.ll_wire.proofs.Cuts.{long}
 use Rattle.ll_wire.specs.Cutting.{Holds}
 use Rattle.ll_steps.specs.declared.report.Report.{Report}
 use Rattle.ll_laws.specs.World.{World, shown}
-use Rattle.ll_wire.specs.Grammar.{reply_line}
 use Rattle.ll_wire.specs.Reads.{ReadsBy}
 use Rattle.ll_wire.specs.ScheduleLines.{SpellsScheduleLine, client_in, line_holds_text}
 use Rattle.ll_wire.specs.declared.schedule.ScheduleLine.{ScheduleLine}
-use Rattle.ll_steps.specs.Tells.{Does, Tells, bad, does, outcome_line, unread}
+use Rattle.ll_steps.specs.Tells.{Answers, Does, bad, does, unread}
 
 -- the bytes spell a line, whose client, if it names one, is one of the first so many
 abbrev pub SpellsOne : List ℕ → ℕ → ScheduleLine → Type 0
@@ -29,12 +27,12 @@ of_piece w bytes piece clients value same count is =
 
 pub is_done : (w w' : World) (bytes piece : List ℕ) (clients : ℕ) (value : ScheduleLine) (outcome : Report)
     → bytes ≡ piece → clients ≡ len (shown w).clients → SpellsOne bytes clients value
-    → Does w value outcome w' → Tells w piece (outcome_line w'.history outcome) w'
+    → Does w value outcome w' → Answers w piece (Ok outcome) w'
 is_done w w' bytes piece clients value outcome same count is done =
     let spells = of_piece w bytes piece clients value same count is in does value outcome w' spells.0 spells.1 done
 
 pub too_long : (w : World) (line : Option (List ℕ)) (piece : List ℕ) → line ≡ None → Holds line piece
-    → Tells w piece (reply_line (Refused BadLine)) w
+    → Answers w piece (Err BadLine) w
 too_long w line piece none held =
     bad (λ value spells come. let more = long line piece none held in let less = spells.short
     in omega (arith, more, less))
@@ -43,9 +41,9 @@ too_long w line piece none held =
 pub not_read : (w : World) (bytes piece : List ℕ) (clients : ℕ) (errno : Errno) → bytes ≡ piece
     → clients ≡ len (shown w).clients
     → ReadsBy (SpellsOne bytes clients) (λ value. line_holds_text value ≡ true) (Err errno)
-    → Tells w piece (reply_line (Refused errno)) w
+    → Answers w piece (Err errno) w
 not_read w bytes piece clients errno same count (inl h) =
-    subst (λ (e : Errno). Tells w piece (reply_line (Refused e)) w) (sym h.0)
+    subst (λ (e : Errno). Answers w piece (Err e) w) (sym h.0)
     (bad (λ value spells come. h.1 value (of_piece_back value (spells, come))))
   where
     of_piece_back : (value : ScheduleLine) → SpellsOne piece (len (shown w).clients) value
@@ -53,5 +51,5 @@ not_read w bytes piece clients errno same count (inl h) =
     of_piece_back value is = subst (λ (n : ℕ). SpellsOne bytes n value) (sym count)
         (subst (λ (b : List ℕ). SpellsOne b (len (shown w).clients) value) (sym same) is)
 not_read w bytes piece clients errno same count (inr h) =
-    subst (λ (e : Errno). Tells w piece (reply_line (Refused e)) w) (sym h.0)
+    subst (λ (e : Errno). Answers w piece (Err e) w) (sym h.0)
     (let spells = of_piece w bytes piece clients h.1 same count h.2 in unread h.1 spells.0 spells.1 h.3)

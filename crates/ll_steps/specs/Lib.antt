@@ -3,6 +3,7 @@ pub mod Contents
 pub mod Headline
 pub mod Left
 pub mod Makes
+pub mod Pace
 pub mod Tells
 pub mod Told
 pub mod Unmet

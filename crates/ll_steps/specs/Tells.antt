@@ -1,5 +1,6 @@
 -- The outcome of a schedule's line, and the line printed for it. own
-use Rattle.std.specs.Prelude.{◌≡◌, ℕ, ◌≤◌, true, List, [], ◌∷◌, IfSome, Result, Ok, Err, codes, decimal, slice_get}
+use Rattle.std.specs.Prelude.{◌≡◌, ℕ, ◌≤◌, Bool, true, false, List, [], ◌∷◌, IfSome, Result, Ok, Err, codes, decimal}
+use Rattle.std.specs.Prelude.{slice_get}
 use Rattle.std.specs.Option.{option_map_or}
 use Rattle.ll_rights.specs.declared.errno.Errno.{Errno}
 use Rattle.ll_rights.specs.declared.errno.Errno.TheVariants.{NoMemory, BadLine}
@@ -41,17 +42,38 @@ abbrev pub Does : World → ScheduleLine → Report → World → Type 0
 Does w (lines.Step step) outcome w' = Makes w step outcome w'
 Does w (lines.Do client call) outcome w' = Calls w client call outcome w'
 
--- A piece that spells a line for a client that exists is answered with its outcome's line. If reading it takes memory,
--- it may be answered NoMemory. Every other piece is answered `refused 23 BadLine`, and changes nothing
-pub data Tells (w : World) (piece : List ℕ) : List ℕ → World → Type 0 where
+-- The outcome of a piece that spells a line for a client that exists is that of its step, or of all steps of its call.
+-- If reading it takes memory, it may be NoMemory. That of every other piece is BadLine, and changes nothing
+pub data Answers (w : World) (piece : List ℕ) : Result Report Errno → World → Type 0 where
   does : (value : ScheduleLine) (outcome : Report) (w' : World) → SpellsScheduleLine piece value → HasCome w value
-      → Does w value outcome w' → Tells w piece (outcome_line w'.history outcome) w'
+      → Does w value outcome w' → Answers w piece (Ok outcome) w'
   unread : (value : ScheduleLine) → SpellsScheduleLine piece value → HasCome w value → line_holds_text value ≡ true
-      → Tells w piece (reply_line (reply.Refused NoMemory)) w
+      → Answers w piece (Err NoMemory) w
   bad : ((value : ScheduleLine) → SpellsScheduleLine piece value → HasCome w value → ⊥)
-      → Tells w piece (reply_line (reply.Refused BadLine)) w
+      → Answers w piece (Err BadLine) w
 
 -- the line printed for a piece: its outcome's, or why it was not read
 abbrev pub answer_line : List Entry → Result Report Errno → List ℕ
 answer_line history (Ok outcome) = outcome_line history outcome
 answer_line history (Err errno) = reply_line (reply.Refused errno)
+
+-- the piece is answered with this line
+abbrev pub Tells : World → (piece line : List ℕ) → World → Type 0
+Tells w piece line w' =
+    (answer : Result Report Errno) × Answers w piece answer w' × (line ≡ answer_line w'.history answer)
+
+-- ---- Strict schedules
+
+-- The piece was a step that was enabled and made. One that isn't enabled is NotNow. A refusal without an entry (no more
+-- room or memory, or no more clients) has no effect but to end a walk
+abbrev pub is_made : Result Report Errno → Bool
+is_made (Ok NotNow) = false
+is_made (Ok (Refused errno)) = false
+is_made (Ok outcome) = true
+is_made (Err errno) = false
+
+-- the piece was such a step, and is answered with its outcome's line
+abbrev pub TellsMade : World → (piece line : List ℕ) → World → Type 0
+TellsMade w piece line w' =
+    (answer : Result Report Errno) × Answers w piece answer w' × (is_made answer ≡ true)
+    × (line ≡ answer_line w'.history answer)

@@ -3,6 +3,7 @@
 
 mod answers;
 mod direct;
+mod halt;
 mod make;
 mod outcome;
 mod reason;
@@ -17,9 +18,11 @@ mod walk;
 mod witness;
 mod world;
 
+pub use halt::Halt;
 pub use outcome::answer_text;
 pub use report::Report;
 pub use run::run_schedule;
+pub use schedule::ScheduleRun;
 pub use setup::WorldSetup;
 pub use unmet::Unmet;
 pub use witness::Witness;
