@@ -9,5 +9,7 @@ pub mod Leasts
 pub mod Names
 pub mod Numbered
 pub mod Openings
+pub mod TableRows
 pub mod Ruling
 pub mod Sets
+pub mod TokenTexts

@@ -1,3 +1,4 @@
+pub mod CallWhy
 pub mod Chains
 pub mod Changes
 pub mod Entries
@@ -5,7 +6,11 @@ pub mod Explained
 pub mod Grants
 pub mod Names
 pub mod Opening
+pub mod PathRows
 pub mod Places
+pub mod Quoted
 pub mod Reasons
 pub mod Rights
+pub mod RightsJson
+pub mod Table
 pub mod Told

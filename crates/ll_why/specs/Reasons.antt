@@ -81,11 +81,14 @@ abbrev pub kept_number : Call → Option ℕ
 kept_number (Ftruncate fd size) = Some fd
 kept_number call = None
 
--- the refusal that comes before policy; without one, what policy says
+-- The refusal that comes before policy; without one, what policy says: for a call that a descriptor's opening decided,
+-- what was kept then; for any other, what the layers say
 abbrev pub IsWhy : State → ClientRecord → Call → Why → Type 0
 IsWhy s c call (Refused errno) = slice_get (before_policy s c call) 0 ≡ Some errno
-IsWhy s c call (Kept denial) = (before_policy s c call ≡ []) × (denial ≡ slice_get (call_denials s c call) 0)
-IsWhy s c call (Judged told) = (before_policy s c call ≡ []) × IsReason s c call told
+IsWhy s c call (Kept denial) =
+    (before_policy s c call ≡ []) × (denial ≡ slice_get (call_denials s c call) 0)
+    × ((fd : ℕ) × (kept_number call ≡ Some fd))
+IsWhy s c call (Judged told) = (before_policy s c call ≡ []) × IsReason s c call told × (kept_number call ≡ None)
 
 abbrev pub IsNotDenied : State → ℕ → Call → Type 0
 IsNotDenied s n call = (fresh : ℕ) (denial : Denial) → (step s n call fresh).0 ≢ reply.Denied denial

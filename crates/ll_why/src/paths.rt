@@ -104,8 +104,8 @@ fn push_name(text: &mut String, before: usize, name: &str) -> Result<(), AllocEr
     text.push_str(name)
 }
 
-// Returns the text of the node with this many of the path's names.
-fn names_text(alloc: Global, path: &Path, count: usize) -> Result<String, AllocError>
+/// Returns the text of the node with this many of the path's names. Errors: memory ran out.
+pub(crate) fn names_text(alloc: Global, path: &Path, count: usize) -> Result<String, AllocError>
     ensures { IfOk result (λ text. string_bytes text ≡ path_text (take count path.now)) }
 {
     let mut text = String::from_str(alloc, "/")?;

@@ -49,6 +49,7 @@ returns-in-Some-kept_number-clause-why c =
           ∙ c.in_default-refused_found.is),
       kept_is s caller call c.in-Some-kept_number.number c.kept_denial.result
           (sym c.kept_number.ensures ∙ c.in-Some-kept_number.is) (c.kept_denial.ensures s),
+      (c.in-Some-kept_number.number, sym c.kept_number.ensures ∙ c.in-Some-kept_number.is),
     )
 
 pub returns-in-Some-kept_number-clause-answered : goal.returns-in-Some-kept_number-clause-answered
@@ -76,6 +77,7 @@ returns-clause-why c =
           ∙ none_first _ (sym (c.refused_found.ensures.refused s c.found-found.ensures)
           ∙ c.in_default-refused_found.is),
       c.in_ok-told.ensures passed,
+      sym c.kept_number.ensures ∙ c.in_default-kept_number.is,
     )
 
 pub returns-clause-answered : goal.returns-clause-answered

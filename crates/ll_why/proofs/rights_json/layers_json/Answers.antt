@@ -1,0 +1,16 @@
+use Rattle.std.proofs.Common.{◌≡◌, codes, ap, ◌∙◌, map, string_bytes, List, String}
+use Rattle.std.specs.declared.alloc.Global.{Global}
+use Rattle.std.proofs.lemmas.Result.{IfOk-weaker}
+use Rattle.ll_why.specs.RightsJson.{grants_json}
+use Rattle.ll_why.proofs.Growing.{joined_parts}
+use Rattle.ll_why.proofs.rights_json.layers_json.Goals as goal
+
+pub returns : goal.returns
+returns c =
+    let layers = c.args.layers.now in
+    let told = grants_json c.args.path.now in
+    let same : map string_bytes c.as_slice.result.now ≡ map told layers =
+    ap (λ (l : List (String Global)). map string_bytes l) c.as_slice.ensures.value ∙ c.in_ok-texts.ensures in
+    IfOk-weaker c.joined.result _ _ (λ text e. e
+    ∙ joined_parts told string_bytes (codes ", ") layers c.as_slice.result.now same)
+    c.joined.ensures
