@@ -35,3 +35,5 @@ pub mod ManyParts
 pub mod Framing
 pub mod Undeniable
 pub mod Unlearning
+pub mod Connected
+pub mod SavedLessons

@@ -21,3 +21,4 @@ pub mod Framed
 pub mod Charges
 pub mod There
 pub mod Mended
+pub mod SavedLesson

@@ -46,7 +46,7 @@ pub struct LearnedProfile {
 }
 
 // Concatenates the parts.
-fn concat(alloc: Global, parts: &[&str]) -> Result<String, AllocError>
+pub(crate) fn concat(alloc: Global, parts: &[&str]) -> Result<String, AllocError>
     ensures { IfOk result (λ text. string_bytes text ≡ concat (map (λ p. p.now) parts.now)) }
 {
     let mut text = String::new(alloc);
