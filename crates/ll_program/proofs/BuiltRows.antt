@@ -119,7 +119,8 @@ with_built s rules = record s { rules = rules; disable_help_subcommand = true; i
 abbrev pub run_built : Shape
 run_built = with_built run.top
     (placed script ∷ filled nodes ∷ filled abi ∷ filled (valued (codes "policy")) ∷ filled (valued (codes "profile"))
-    ∷ filled history ∷ filled (valued (codes "save")) ∷ filled (flag (codes "strict")) ∷ help_built ∷ [])
+    ∷ filled history ∷ filled (valued (codes "save")) ∷ filled (flag (codes "strict"))
+    ∷ filled (flag (codes "comments")) ∷ help_built ∷ [])
 
 abbrev pub audit_built : Shape
 audit_built = with_built audit.top (placed file ∷ help_built ∷ [])
@@ -127,7 +128,8 @@ audit_built = with_built audit.top (placed file ∷ help_built ∷ [])
 abbrev pub schedule_built : Shape
 schedule_built = with_built schedule.top
     (placed file ∷ filled nodes ∷ filled abi ∷ filled history ∷ filled (valued (codes "picture"))
-    ∷ filled (line_number (codes "from")) ∷ filled (line_number (codes "to")) ∷ help_built ∷ [])
+    ∷ filled (line_number (codes "from")) ∷ filled (line_number (codes "to")) ∷ filled (flag (codes "strict"))
+    ∷ help_built ∷ [])
 
 abbrev pub rights_built : Shape
 rights_built = with_built rights.top
@@ -368,7 +370,10 @@ run_keeps p a e = found_there (Keeps Good) p run_built.rules a (
           valued_keeps (codes "profile") refl,
           (
             history_keeps,
-            (valued_keeps (codes "save") refl, (flag_keeps (codes "strict") refl, (help_keeps, tt))),
+            (
+              valued_keeps (codes "save") refl,
+              (flag_keeps (codes "strict") refl, (flag_keeps (codes "comments") refl, (help_keeps, tt))),
+            ),
           ),
         ),
       ),
@@ -391,7 +396,10 @@ schedule_keeps p a e = found_there (Keeps Good) p schedule_built.rules a (
         history_keeps,
         (
           valued_keeps (codes "picture") refl,
-          (line_number_keeps (codes "from") refl, (line_number_keeps (codes "to") refl, (help_keeps, tt))),
+          (
+            line_number_keeps (codes "from") refl,
+            (line_number_keeps (codes "to") refl, (flag_keeps (codes "strict") refl, (help_keeps, tt))),
+          ),
         ),
       ),
     ),

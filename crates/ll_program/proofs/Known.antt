@@ -17,7 +17,7 @@ use Rattle.ll_policy.specs.declared.fault.PolicyFault.TheVariants as faults
 use Rattle.ll_program.specs.Failure.{failure_in}
 use Rattle.ll_program.specs.Options.{RunOrder, TreeOrder, order_in, tree_in, tree_of}
 use Rattle.ll_policy.specs.Plan.{Plan, IsPlanOf}
-use Rattle.ll_program.specs.Policy.{ByLevel, ByPlan, IsSaved, IsSetBy, IsSetup, Lacks, header_of}
+use Rattle.ll_program.specs.Policy.{ByLevel, ByPlan, IsPolicy, IsSaved, IsSetBy, IsSetup, Lacks, header_of}
 use Rattle.ll_seq.specs.declared.reply.Entry.{Entry}
 use Rattle.ll_audit.specs.Saved.{saved_text}
 use Rattle.ll_wire.specs.declared.header.Header.{Header}
@@ -51,17 +51,17 @@ set_by_level options text setup none by = go options.policy none
 -- a policy is asked for
 pub set_by_plan : (options : TreeOptions) (text : List ℕ) (told : Option (List ℕ)) (plan : Plan)
     (r : Result Setup Failure) → IfSome told (λ known. text ≡ known) → is_some options.policy ≡ true
-    → IsPlanOf (parse_document text) plan → IfOk r (λ setup. setup.nodes ≡ options.nodes)
+    → IsPolicy text → IsPlanOf (parse_document text) plan → IfOk r (λ setup. setup.nodes ≡ options.nodes)
     → IfOk r (λ setup. setup.history ≡ options.history) → IfOk r (ByPlan (tree_in options) plan)
     → IfOk r (λ setup. (x : List ℕ) × IfSome told (λ known. x ≡ known) × IsSetup (tree_in options) x setup)
-set_by_plan options text told plan (Err failure) known some is nodes history by = tt
-set_by_plan options text told plan (Ok setup) known some is nodes history by =
+set_by_plan options text told plan (Err failure) known some right is nodes history by = tt
+set_by_plan options text told plan (Ok setup) known some right is nodes history by =
     (text, known, (nodes, history, go options.policy some))
   where
     go : (file : Option (Bor (List ℕ))) → is_some file ≡ true
         → IsSetBy (option_map (λ (t : Bor (List ℕ)). t.now) file) (tree_in options) text setup
     go None e = absurd cc
-    go (Some file) e = (plan, is, by)
+    go (Some file) e = (right, (plan, is, by))
 
 -- why there is no setup of a run's tree
 pub lacking : (order : RunOrder) (tree : TreeOptions) (text : List ℕ) (failure : Failure)

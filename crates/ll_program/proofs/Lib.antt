@@ -1,3 +1,4 @@
+pub mod Bodies
 pub mod Entered
 pub mod ArgumentsUsed
 pub mod Matched
@@ -8,6 +9,8 @@ pub mod Ordered
 pub mod Added
 pub mod DeniedWords
 pub mod Known
+pub mod Spoken
 pub mod Stopping
 pub mod Audited
 pub mod Kept
+pub mod Questions

@@ -93,9 +93,9 @@ level_allowed (Some level) n h = ap Some h.1 ∙ within 1 3 n h.0.0 h.0.1
 level_allowed None n h = beyond 1 3 n h
 
 -- the run that is wanted, where each part is there
-abbrev pub together : Option Text → (n most level : Option ℕ) → (policy profile save : Option Text) → Bool
-    → Option RunOrder
-together path n most level policy profile save strict =
+abbrev pub together : Option Text → (n most level : Option ℕ) → (policy profile save : Option Text)
+    → (strict comments : Bool) → Option RunOrder
+together path n most level policy profile save strict comments =
     option_and_then (λ p. option_and_then
     (λ k. option_map (λ m. record {
       script = p;
@@ -106,12 +106,13 @@ together path n most level policy profile save strict =
       profile = profile;
       save = save;
       strict = strict;
+      comments = comments;
     }) most) n) path
 
 -- the same of a schedule
 abbrev pub together_scheduled : Option Text → Option ℕ → Option ℕ → Option ℕ → Option Text → (from to : Option ℕ)
-    → Option ScheduleOrder
-together_scheduled path n most level picture from to =
+    → Bool → Option ScheduleOrder
+together_scheduled path n most level picture from to strict =
     option_and_then (λ p. option_and_then
     (λ k. option_map (λ m. record {
       file = p;
@@ -121,6 +122,7 @@ together_scheduled path n most level picture from to =
       picture = picture;
       from = from;
       to = to;
+      strict = strict;
     }) most) n) path
 
 -- the rights that are wanted, where each part is there
@@ -209,15 +211,15 @@ together_learned files beneath policy history name never client most n =
       nodes = k;
     }) n
 
-pub whole : (p : Option Text) (n m l : Option ℕ) (q r s : Option Text) (t : Bool) (path : Text) (nodes most : ℕ)
+pub whole : (p : Option Text) (n m l : Option ℕ) (q r s : Option Text) (t u : Bool) (path : Text) (nodes most : ℕ)
     → p ≡ Some path → n ≡ Some nodes → m ≡ Some most
-    → is_some (together p n m l q r s t) ≡ true
-whole p n m l q r s t path nodes most e f g = rw (e, f, g) refl
+    → is_some (together p n m l q r s t u) ≡ true
+whole p n m l q r s t u path nodes most e f g = rw (e, f, g) refl
 
-pub whole_schedule : (p : Option Text) (n m l : Option ℕ) (q : Option Text) (i j : Option ℕ) (path : Text)
-    (nodes most : ℕ) → p ≡ Some path → n ≡ Some nodes → m ≡ Some most
-    → is_some (together_scheduled p n m l q i j) ≡ true
-whole_schedule p n m l q i j path nodes most e f g = rw (e, f, g) refl
+pub whole_schedule : (p : Option Text) (n m l : Option ℕ) (q : Option Text) (i j : Option ℕ) (s : Bool)
+    (path : Text) (nodes most : ℕ) → p ≡ Some path → n ≡ Some nodes → m ≡ Some most
+    → is_some (together_scheduled p n m l q i j s) ≡ true
+whole_schedule p n m l q i j s path nodes most e f g = rw (e, f, g) refl
 
 pub whole_rights : (p q : Option Text) (n : Option ℕ) (told : List Text) (layers : Bool) (form : Option AnswerForm)
     (file name : Text) (nodes : ℕ) → p ≡ Some file → q ≡ Some name → n ≡ Some nodes

@@ -157,8 +157,28 @@ flag_default : (name : Text) → IsOther name → AreRead name (codes "false") A
 flag_default name other = others name (codes "false") AsWritten other
 
 run_ends : (rest : List Text) → level_fault run_built [] nothing_held rest false [] ≡ [] → Ends run_built rest
-run_ends = ends_in run_built run_keeps
-    (tt, (nodes_default, (tt, (tt, (tt, (history_default, (tt, (flag_default (codes "strict") refl, (tt, tt)))))))))
+run_ends = ends_in run_built run_keeps (
+  tt,
+  (
+    nodes_default,
+    (
+      tt,
+      (
+        tt,
+        (
+          tt,
+          (
+            history_default,
+            (
+              tt,
+              (flag_default (codes "strict") refl, (flag_default (codes "comments") refl, (tt, tt))),
+            ),
+          ),
+        ),
+      ),
+    ),
+  ),
+)
 
 audit_ends : (rest : List Text) → level_fault audit_built [] nothing_held rest false [] ≡ [] → Ends audit_built rest
 audit_ends = ends_in audit_built audit_keeps (tt, (tt, tt))
@@ -166,7 +186,7 @@ audit_ends = ends_in audit_built audit_keeps (tt, (tt, tt))
 schedule_ends : (rest : List Text) → level_fault schedule_built [] nothing_held rest false [] ≡ []
     → Ends schedule_built rest
 schedule_ends = ends_in schedule_built schedule_keeps
-    (tt, (nodes_default, (tt, (history_default, (tt, (tt, (tt, (tt, tt))))))))
+    (tt, (nodes_default, (tt, (history_default, (tt, (tt, (tt, (flag_default (codes "strict") refl, (tt, tt)))))))))
 
 rights_ends : (rest : List Text) → level_fault rights_built [] nothing_held rest false [] ≡ [] → Ends rights_built rest
 rights_ends = ends_in rights_built rights_keep
@@ -256,7 +276,7 @@ run_wanted rest e =
     let path = text_of rows ends.0 (codes "SCRIPT") (given (is_given (codes "SCRIPT") rows) _ ends.2) in
     let n = nodes_of rows ends.0 (ends.1.1.0 tt) in
     let most = history_of rows ends.0 (ends.1.1.1.1.1.1.0 tt) in
-    whole _ _ _ _ _ _ _ _ path.0 n.0 most.0 path.1 n.1 most.1
+    whole _ _ _ _ _ _ _ _ _ path.0 n.0 most.0 path.1 n.1 most.1
 
 audit_wanted : (rest : List Text) → level_fault audit_built [] nothing_held rest false [] ≡ []
     → is_some (first_of (codes "FILE") (rows_after audit_built.rules [] rest)) ≡ true
@@ -273,7 +293,7 @@ schedule_wanted rest e =
     let path = text_of rows ends.0 (codes "FILE") (given (is_given (codes "FILE") rows) _ ends.2) in
     let n = nodes_of rows ends.0 (ends.1.1.0 tt) in
     let most = history_of rows ends.0 (ends.1.1.1.1.0 tt) in
-    whole_schedule _ _ _ _ _ _ _ path.0 n.0 most.0 path.1 n.1 most.1
+    whole_schedule _ _ _ _ _ _ _ _ path.0 n.0 most.0 path.1 n.1 most.1
 
 rights_wanted : (rest : List Text) → level_fault rights_built [] nothing_held rest false [] ≡ []
     → is_some (rights_order (rows_after rights_built.rules [] rest)) ≡ true

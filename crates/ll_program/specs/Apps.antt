@@ -46,7 +46,7 @@ flag name = record (new_rule name) { long = Some name; action = Some SetTrue }
 abbrev pub run : App
 run = fold with_rule (new_app (codes "run"))
     (script ∷ nodes ∷ abi ∷ valued (codes "policy") ∷ valued (codes "profile") ∷ history ∷ valued (codes "save")
-    ∷ flag (codes "strict") ∷ [])
+    ∷ flag (codes "strict") ∷ flag (codes "comments") ∷ [])
 
 abbrev pub file : Rule
 file = record (new_rule (codes "FILE")) { required = true }
@@ -65,7 +65,7 @@ line_number name = record (valued name) { parser = Some line_numbers }
 abbrev pub schedule : App
 schedule = fold with_rule (new_app (codes "schedule"))
     (file ∷ nodes ∷ abi ∷ history ∷ valued (codes "picture") ∷ line_number (codes "from") ∷ line_number (codes "to")
-    ∷ [])
+    ∷ flag (codes "strict") ∷ [])
 
 -- one path or more
 abbrev pub paths : Rule

@@ -70,7 +70,8 @@ failure_at audit.Read = File
 failure_at audit.Write = Output
 failure_at audit.NoMemory = NoMemory
 
--- 3 only for a history that isn't legal, for checks of which one fails, and for a strict run that ends early
+-- 3 only for a history that isn't legal, for checks of which one fails, and for a strict run or schedule that ends
+-- early
 abbrev pub status_by : Conclusion → ℕ
 status_by Done = 0
 status_by (Stopped stopped) = 3
@@ -101,9 +102,13 @@ end_line (Ok (Stopped stopped)) = Some (string_bytes stopped.line)
 end_line (Ok conclusion) = Some []
 end_line (Err failure) = with_newline (line_of failure)
 
+-- which line of a script or a schedule ended it, and the line that answers that one
+abbrev pub place_line : (file : List ℕ) → (line : ℕ) → (answer : List ℕ) → List ℕ
+place_line file line answer = file ++ (codes ":" ++ decimal line ++ codes ": ") ++ answer
+
 -- where a strict run of this script ended, and the line of the reply
 abbrev pub stop_line : List ℕ → Stop → List ℕ
-stop_line script (AtLine line reply) = script ++ (codes ":" ++ decimal line ++ codes ": ") ++ reply_line reply
+stop_line script (AtLine line reply) = place_line script line (reply_line reply)
 stop_line script (AtOpening reply) = script ++ codes ": before line 1: " ++ reply_line reply
 
 -- saving a history, or drawing a picture, fails by its file or by memory

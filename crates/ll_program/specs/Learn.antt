@@ -1,11 +1,13 @@
--- What the words of `learn` say about the profile. own
-use Rattle.std.specs.Prelude.{◌≡◌, ◌≢◌, ◌<◌, ◌^◌, ℕ, Option, Some, None, codes, unwrap_or, if◌then◌else◌}
-use Rattle.std.specs.Prelude.{IfNone, IfSome}
+-- What the words of `learn` ask for. own
+use Rattle.std.specs.Prelude.{◌≡◌, ◌≢◌, ◌<◌, ◌^◌, ℕ, Bool, List, [], ◌∷◌, Option, Some, None, codes, unwrap_or}
+use Rattle.std.specs.Prelude.{IfNone, IfSome, if◌then◌else◌, is_some}
 use Rattle.clap.specs.Words.{Text}
 use Rattle.ll_rights.specs.Access.{access_text}
 use Rattle.ll_rights.specs.declared.access.Access.{Access}
 use Rattle.ll_policy.specs.Value.{is_name}
 use Rattle.ll_program.specs.Options.{LearnOrder}
+use Rattle.ll_program.specs.declared.learn.Lessons.{Lessons}
+use Rattle.ll_program.specs.declared.learn.Lessons.TheVariants.{Checks, History}
 
 -- the given name, or else `learned`
 abbrev pub name_told : LearnOrder → Text
@@ -26,3 +28,23 @@ IsWithheld None rights = IfSome rights (λ none. none.0 ≡ 0) × IfNone rights 
 IsWithheld (Some word) rights =
     IfSome rights (λ set. word ≡ access_text set.0)
     × IfNone rights ((set : ℕ) → set < 2 ^ 64 → word ≢ access_text set)
+
+-- what `learn` learns from: files of checks, with a policy's nodes, or a history, for one of its clients
+pub data Lesson : Type 0 where
+  of_checks : (policy : Text) → Lesson
+  of_history : (history : Text) → Option ℕ → Lesson
+
+abbrev pub lessons_of : Lessons → Lesson
+lessons_of (Checks policy) = of_checks policy.now
+lessons_of (History history client) = of_history history.now client
+
+abbrev pub lessons_in : List Text → (policy history : Option Text) → Option ℕ → Option Lesson
+lessons_in (first ∷ others) (Some policy) None None = Some (of_checks policy)
+lessons_in [] None (Some name) client = Some (of_history name client)
+lessons_in told policy kept client = None
+
+abbrev pub lessons_by : LearnOrder → Option Lesson
+lessons_by o = lessons_in o.files o.policy o.history o.client
+
+abbrev pub fits_learn : LearnOrder → Bool
+fits_learn o = is_some (lessons_by o)

@@ -1,4 +1,5 @@
 pub mod Apps
+pub mod Comments
 pub mod Options
 pub mod Failure
 pub mod Learn

@@ -29,8 +29,6 @@ use Rattle.ll_program.specs.declared.why.WhyOptions.{WhyOptions}
 use Rattle.ll_program.specs.declared.options.Options.{Options}
 use Rattle.ll_program.specs.declared.options.Options.TheVariants.{Run, Schedule, Rights, Audit, Check, Serve, Export}
 use Rattle.ll_program.specs.declared.options.Options.TheVariants.{Learn, Why}
-use Rattle.ll_program.specs.declared.learn.Lessons.{Lessons}
-use Rattle.ll_program.specs.declared.learn.Lessons.TheVariants.{Checks, History}
 use Rattle.ll_program.specs.declared.learn.LearnOptions.{LearnOptions}
 use Rattle.ll_program.specs.declared.tree.TreeOptions.{TreeOptions}
 pub use Rattle.ll_program.specs.Apps.{abi, audit, check, client_numbers, connection_numbers, connections, counted}
@@ -49,6 +47,7 @@ pub record RunOrder : Type 0 where
   pub profile : Option Text
   pub save : Option Text
   pub strict : Bool
+  pub comments : Bool
 
 pub record ScheduleOrder : Type 0 where
   pub file : Text
@@ -58,6 +57,7 @@ pub record ScheduleOrder : Type 0 where
   pub picture : Option Text
   pub from : Option ℕ
   pub to : Option ℕ
+  pub strict : Bool
 
 pub record RightsOrder : Type 0 where
   pub policy : Text
@@ -151,6 +151,7 @@ order_in o =
       profile = text o.profile;
       save = text o.save;
       strict = o.strict;
+      comments = o.comments;
     }
 
 abbrev pub scheduled_in : ScheduleOptions → ScheduleOrder
@@ -163,6 +164,7 @@ scheduled_in o =
       picture = option_map (λ t. t.now) o.picture;
       from = o.from;
       to = o.to;
+      strict = o.strict;
     }
 
 abbrev pub rights_in : RightsOptions → RightsOrder
@@ -312,6 +314,7 @@ run_order rows =
       profile = first_of (codes "profile") rows;
       save = first_of (codes "save") rows;
       strict = is_set (codes "strict") rows;
+      comments = is_set (codes "comments") rows;
     })
     (number_of (codes "history") history_numbers rows))
     (number_of (codes "nodes") node_numbers rows))
@@ -327,6 +330,7 @@ schedule_order rows =
       picture = first_of (codes "picture") rows;
       from = number_of (codes "from") line_numbers rows;
       to = number_of (codes "to") line_numbers rows;
+      strict = is_set (codes "strict") rows;
     })
     (number_of (codes "history") history_numbers rows))
     (number_of (codes "nodes") node_numbers rows))
@@ -551,17 +555,28 @@ fits_export o = (is_some o.form && is_some o.deny)
 abbrev pub is_checked : ExportOrder → Bool
 is_checked o = not (length o.checked == 0)
 
--- what `why` explains: a command, by a policy and its profile, or an entry of a history, by its number
+-- what `why` explains: a command, by a policy and its profile, after others, or an entry of a history, by its number
 pub data Asked : Type 0 where
-  of_command : (policy profile command : Text) → Asked
+  of_command : (policy profile : Text) → (before : List Text) → (command : Text) → Asked
   of_entry : (history : Text) → ℕ → Asked
 
 abbrev pub question_of : Question → Asked
-question_of (Command policy profile command) = of_command policy.now profile.now command.now
+question_of (Command it) =
+    of_command it.policy.now it.profile.now (map (λ w. w.now) it.before.now) it.command.now
 question_of (Entry history number) = of_entry history.now number
 
+-- the last of these words, and those before it
+abbrev pub last_of : Text → List Text → Text
+last_of word [] = word
+last_of word (next ∷ words) = last_of next words
+
+abbrev pub before_last : Text → List Text → List Text
+before_last word [] = []
+before_last word (next ∷ words) = word ∷ before_last next words
+
 abbrev pub asked_in : List Text → Option Text → Option Text → Option Asked
-asked_in (command ∷ []) (Some policy) (Some profile) = Some (of_command policy profile command)
+asked_in (word ∷ words) (Some policy) (Some profile) =
+    Some (of_command policy profile (before_last word words) (last_of word words))
 asked_in (history ∷ (number ∷ [])) None None = option_map (of_entry history) (number_in history_numbers number)
 asked_in told policy profile = None
 
@@ -570,26 +585,6 @@ asked_by o = asked_in o.words o.policy o.profile
 
 abbrev pub fits_why : WhyOrder → Bool
 fits_why o = is_some (asked_by o)
-
--- what `learn` learns from: files of checks, with a policy's nodes, or a history, for one of its clients
-pub data Lesson : Type 0 where
-  of_checks : (policy : Text) → Lesson
-  of_history : (history : Text) → Option ℕ → Lesson
-
-abbrev pub lessons_of : Lessons → Lesson
-lessons_of (Checks policy) = of_checks policy.now
-lessons_of (History history client) = of_history history.now client
-
-abbrev pub lessons_in : List Text → (policy history : Option Text) → Option ℕ → Option Lesson
-lessons_in (first ∷ others) (Some policy) None None = Some (of_checks policy)
-lessons_in [] None (Some name) client = Some (of_history name client)
-lessons_in told policy kept client = None
-
-abbrev pub lessons_by : LearnOrder → Option Lesson
-lessons_by o = lessons_in o.files o.policy o.history o.client
-
-abbrev pub fits_learn : LearnOrder → Bool
-fits_learn o = is_some (lessons_by o)
 
 -- words with these faults end well: there is none, or help or the version is asked for
 abbrev pub EndsWell : Kinds → Type 0

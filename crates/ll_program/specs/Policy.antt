@@ -12,6 +12,7 @@ use Rattle.ll_seq.specs.State.{start}
 use Rattle.ll_policy.specs.declared.fault.PolicyFault.TheVariants.{NotToml}
 use Rattle.ll_policy.specs.Faults.{document_faults}
 use Rattle.ll_policy.specs.Plan.{Plan, IsPlanOf}
+use Rattle.ll_program.specs.Comments.{spoken_numbers, spoken_text, stop_there}
 use Rattle.ll_program.specs.declared.failure.Failure.{Failure}
 use Rattle.ll_program.specs.declared.failure.Failure.TheVariants.{CommandLine, Policy, Opening, File, Output, Socket}
 use Rattle.ll_program.specs.declared.failure.Failure.TheVariants.{NoMemory}
@@ -46,10 +47,15 @@ pub record ByLevel (order : TreeOrder) (setup : Setup) : Type 0 where
   pub loader : setup.loader ≡ None
   pub profile : setup.profile.items ≡ []
 
+-- a policy: a text without a fault
+abbrev pub IsPolicy : List ℕ → Type 0
+IsPolicy text = IsUtf8 text × (document_faults (parse_document text) ≡ [])
+
 -- the setup by the policy in this text, if a policy's file is named
 abbrev pub IsSetBy : Option (List ℕ) → TreeOrder → List ℕ → Setup → Type 0
 IsSetBy None order text setup = ByLevel order setup
-IsSetBy (Some file) order text setup = (plan : Plan) × IsPlanOf (parse_document text) plan × ByPlan order plan setup
+IsSetBy (Some file) order text setup =
+    IsPolicy text × ((plan : Plan) × IsPlanOf (parse_document text) plan × ByPlan order plan setup)
 
 -- the setup asked for, if the policy's file has this text
 abbrev pub IsSetup : TreeOrder → List ℕ → Setup → Type 0
@@ -94,6 +100,16 @@ abbrev pub HasRun : (strict : Bool) → Setup → (script script' out out' : Opt
 HasRun strict setup script script' out out' stop entries =
     IfSome script (λ input. Writes out out' (λ text. RunsAs strict setup input script' text stop entries))
 
+-- or of a script with comments, whose lines that aren't silent are run once all of it is read
+abbrev pub HasRunAs : (comments strict : Bool) → Setup → (script script' out out' : Option (List ℕ)) → Option Stop
+    → List Entry → Type 0
+HasRunAs false strict setup script script' out out' stop entries =
+    HasRun strict setup script script' out out' stop entries
+HasRunAs true strict setup script script' out out' stop entries =
+    IfSome script (λ text. (there : Option Stop) × (left : Option (List ℕ))
+    × (stop ≡ option_map (stop_there (spoken_numbers text)) there)
+    × HasRun strict setup (Some (spoken_text text)) left out out' there entries)
+
 -- A run with the setup asked for, if the policy's file has this text. What was read of the script and written, and what
 -- is saved, are of one history, which is legal in the setup's tree. It is concluded by what ended it. Only a strict run
 -- ends before its script
@@ -102,7 +118,7 @@ abbrev pub IsRun : RunOrder → List ℕ → Conclusion → (script script' out 
 IsRun order text end script script' out out' blank file file' =
     (setup : Setup) × (entries : List Entry) × (stop : Option Stop) × IsSetup (tree_of order) text setup
     × IsLegal (start setup.rules setup.nodes) entries
-    × HasRun order.strict setup script script' out out' stop entries
+    × HasRunAs order.comments order.strict setup script script' out out' stop entries
     × (order.strict ≡ false → stop ≡ None)
     × IsSaved order.save setup entries blank file file' × IsConcluded order.script stop end
 
@@ -111,20 +127,34 @@ abbrev pub HasBegun : (strict : Bool) → Setup → (script out out' : Option (L
 HasBegun strict setup script out out' fault =
     IfSome script (λ input. Writes out out' (BeginsBy strict setup fault input))
 
+-- or of a script with comments
+abbrev pub HasBegunAs : (comments strict : Bool) → Setup → (script out out' : Option (List ℕ)) → RunFault → Type 0
+HasBegunAs false strict setup script out out' fault = HasBegun strict setup script out out' fault
+HasBegunAs true strict setup script out out' fault =
+    IfSome script (λ text. HasBegun strict setup (Some (spoken_text text)) out out' fault)
+
+-- why a script with comments isn't run: it can't be read, or memory runs out
+abbrev pub IsUnread : (comments : Bool) → Failure → Type 0
+IsUnread false failure = ⊥
+IsUnread true failure = (failure ≡ File) ⊎ (failure ≡ NoMemory)
+
 -- why a run that was made to its end isn't kept: no memory for the line on what ended it, or its history can't be saved
 abbrev pub IsUnkept : RunOrder → Option Stop → Failure → Type 0
 IsUnkept order stop failure =
     ((is_some stop ≡ true) × (failure ≡ NoMemory)) ⊎ ((is_some order.save ≡ true) × IsOfSaving failure)
 
--- Why nothing is run to its end and saved, and what is written then. A policy is named, and gives no setup: nothing. A
--- fault ends the run with the setup: a prefix of its lines. The run isn't kept: all of them
+-- Why nothing is run to its end and saved, and what is written then. A policy is named, and gives no setup, or a script
+-- with comments can't be read: nothing. A fault ends the run with the setup: a prefix of its lines. The run isn't kept:
+-- all of them
 abbrev pub MayFail : RunOrder → List ℕ → (script script' out out' : Option (List ℕ)) → Failure → Type 0
 MayFail order text script script' out out' failure =
     ((is_some order.policy ≡ true) × Lacks (tree_of order) text failure × (out' ≡ out))
+    ⊎ (IsUnread order.comments failure × (out' ≡ out))
     ⊎ ((setup : Setup) × IsSetup (tree_of order) text setup × (fault : RunFault) × MayEnd setup fault
-    × (failure ≡ failure_of fault) × HasBegun order.strict setup script out out' fault)
+    × (failure ≡ failure_of fault) × HasBegunAs order.comments order.strict setup script out out' fault)
     ⊎ ((setup : Setup) × IsSetup (tree_of order) text setup × (stop : Option Stop) × (entries : List Entry)
-    × HasRun order.strict setup script script' out out' stop entries × IsUnkept order stop failure)
+    × HasRunAs order.comments order.strict setup script script' out out' stop entries
+    × IsUnkept order stop failure)
 
 -- How a run ends, if the files have these texts. It is done, or stopped, for the script that is named. Or it fails as
 -- above, or before it begins, and then nothing is written

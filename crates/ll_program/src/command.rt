@@ -191,6 +191,11 @@ fn run_command<'a>(alloc: Global) -> Result<Command<'a>, AllocError>
             "strict",
             "Stop with status 3 at a bad line, a full history or no memory, or a refused layer or client",
         ),
+        flag(
+            alloc,
+            "comments",
+            "Leave out blank lines and lines that begin with #; the last line may lack its line feed",
+        ),
     ]?;
     command_of(
         alloc,
@@ -253,6 +258,11 @@ fn schedule_command<'a>(alloc: Global) -> Result<Command<'a>, AllocError>
         ),
         line_option(alloc, "from", "The first line to draw (1)"),
         line_option(alloc, "to", "The last line to draw (the last)"),
+        flag(
+            alloc,
+            "strict",
+            "Stop with status 3 at a bad line, a step that isn't enabled, or a refusal without an entry",
+        ),
     ]?;
     command_of(
         alloc,

@@ -9,9 +9,9 @@ use ll_audit::Verdict;
 
 #[derive(Debug, Drop)]
 pub enum Conclusion {
-    /// A script ran to its end, or one of clap's texts was printed.
+    /// A script or a schedule ran to its end, or one of clap's texts was printed.
     Done,
-    /// A strict run ended before the end of its script.
+    /// A strict run ended before the end of its script, or a strict schedule before its own.
     Stopped(Stopped),
     /// A history was judged.
     Judged(Verdict),

@@ -77,7 +77,8 @@ fn is_profile_name(name: &str) -> bool
 impl<'a> LearnOptions<'a> {
     ghost use Rattle.clap.specs.Words.{found_of, rows_of};
     ghost use Rattle.ll_program.specs.Learn.{IsWithheld, most_rules, name_told, profile_name};
-    ghost use Rattle.ll_program.specs.Options.{learn_in, learn_order, lessons_by, lessons_of};
+    ghost use Rattle.ll_program.specs.Options.{learn_in, learn_order};
+    ghost use Rattle.ll_program.specs.Learn.{lessons_by, lessons_of};
 
     /// Reads the options of `learn` from clap's matches. Errors: memory ran out.
     #[tactic(auto, using(crate::proofs::Numbers::text_told))]

@@ -4,6 +4,7 @@
 mod checked;
 mod clash;
 mod command;
+mod comments;
 mod conclusion;
 mod denied;
 mod draft;
@@ -31,6 +32,7 @@ mod why;
 
 pub use checked::Checked;
 pub use clash::{Clash, Device, Purpose};
+pub use comments::{body_of, is_silent};
 pub use conclusion::Conclusion;
 pub use denied::Denied;
 pub use draft::Draft;
@@ -52,4 +54,4 @@ pub use standard::Standard;
 pub use stopped::Stopped;
 pub use text::{read_text, write_bytes, write_text};
 pub use tree::TreeOptions;
-pub use why::{Question, WhyOptions};
+pub use why::{CommandQuestion, Question, WhyOptions};

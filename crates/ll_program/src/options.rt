@@ -22,8 +22,8 @@ pub(crate) const LINES: u64 = 1_000_000_000;
 
 /// The options of `run`: the script's file (`-` is standard input); the limit of live nodes; the ABI level, or the
 /// policy file and the first client's profile; the limit of history entries, and the file to save the history in, if
-/// any; and whether the run is strict. A strict run ends at the first bad line, or at the first refusal of a call that
-/// sets up layers.
+/// any; whether the run is strict; and whether the script may have comments and blank lines. A strict run ends at the
+/// first bad line, or at the first refusal of a call that sets up layers.
 #[derive(Drop)]
 pub struct RunOptions<'a> {
     pub script: &'a str,
@@ -34,6 +34,7 @@ pub struct RunOptions<'a> {
     pub profile: Option<&'a str>,
     pub save: Option<&'a str>,
     pub strict: bool,
+    pub comments: bool,
     ghost some: { 1 ≤ nodes },
     ghost most: { nodes ≤ TREE_NODES },
     ghost some_entries: { 1 ≤ history },
@@ -67,6 +68,7 @@ impl<'a> RunOptions<'a> {
         let profile = run.get_str("profile");
         let save = run.get_str("save");
         let strict = CheckOptions::is_set(run, "strict");
+        let comments = CheckOptions::is_set(run, "comments");
         Some(RunOptions {
             script,
             nodes: nodes as usize,
@@ -76,6 +78,7 @@ impl<'a> RunOptions<'a> {
             profile,
             save,
             strict,
+            comments,
         })
     }
 
@@ -95,7 +98,8 @@ impl<'a> RunOptions<'a> {
 }
 
 /// The options of `schedule`: its file (`-` is standard input); the limit of live nodes; the ABI level; the limit of
-/// history entries; and the picture's file, if any, with its first and last line (from 1; by default all).
+/// history entries; the picture's file, if any, with its first and last line (from 1; by default all); and whether the
+/// schedule is strict. A strict one ends at the first line that isn't a step that was enabled and made.
 #[derive(Drop)]
 pub struct ScheduleOptions<'a> {
     pub file: &'a str,
@@ -105,6 +109,7 @@ pub struct ScheduleOptions<'a> {
     pub picture: Option<&'a str>,
     pub from: Option<u64>,
     pub to: Option<u64>,
+    pub strict: bool,
     ghost some: { 1 ≤ nodes },
     ghost most: { nodes ≤ TREE_NODES },
     ghost some_entries: { 1 ≤ history },
@@ -127,6 +132,7 @@ impl<'a> ScheduleOptions<'a> {
         let picture = schedule.get_str("picture");
         let from = number_of(schedule, "from", 1, LINES);
         let to = number_of(schedule, "to", 1, LINES);
+        let strict = CheckOptions::is_set(schedule, "strict");
         Some(ScheduleOptions {
             file,
             nodes: nodes as usize,
@@ -135,6 +141,7 @@ impl<'a> ScheduleOptions<'a> {
             picture,
             from,
             to,
+            strict,
         })
     }
 

@@ -1,7 +1,7 @@
 //! Runs and audits, as the program makes them.
 
 ghost use Rattle.std.specs.Prelude.{◌≡◌, ◌≤◌, ◌^◌, ℕ, List, OnOk, OnErr, IfOk, IfErr, IfSome, None, is_some, true};
-ghost use Rattle.std.specs.Prelude.{false};
+ghost use Rattle.std.specs.Prelude.{◌⊎◌, false, option_map};
 ghost use Rattle.std.specs.Io.KnownBytes.{Appends};
 ghost use Rattle.std.specs.List.{All};
 ghost use Rattle.ll_rights.specs.declared.limits.TheConstants.{TREE_NODES};
@@ -18,15 +18,19 @@ ghost use Rattle.ll_wire.specs.Grammar.{line_of};
 ghost use Rattle.ll_wire.specs.Pieces.{pieces};
 ghost use Rattle.ll_program.specs.declared.failure.Failure.{Failure};
 ghost use Rattle.ll_program.specs.Failure.{FailsAudit, failure_at, failure_of, IsOfSaving};
-ghost use Rattle.ll_program.specs.Policy.{HasBegun, HasRun, header_of, IsConcluded, IsRun, IsSaved, MayFail};
+ghost use Rattle.ll_program.specs.Comments.{stop_there};
+ghost use Rattle.ll_program.specs.Policy.{HasBegun, HasBegunAs, HasRun, HasRunAs, header_of, IsConcluded, IsRun};
+ghost use Rattle.ll_program.specs.Policy.{IsSaved, IsUnread, MayFail};
 ghost use Rattle.ll_seq.specs.History.{IsLegal};
 ghost use Rattle.ll_seq.specs.State.{start};
 
 use crate::RunOptions;
+use crate::comments::SpokenLines;
 use crate::conclusion::Conclusion;
 use crate::failure::Failure;
 use crate::policy::setup_of;
 use crate::stopped::Stopped;
+use crate::text::read_text;
 use ll_audit::{Progress, Verdict, record_in, run_audit_over, save_in};
 use ll_seq::History;
 use ll_session::{Chronicle, Manner, NoKeeper, Run, Setup, Stop, run_over};
@@ -140,6 +144,21 @@ fn perform<H: Wait, D: Write + Drop, R: Read, W: Write>(
     perform_over(rt, alloc, setup, is_strict, record, &mut ends)
 }
 
+impl<D> Performed<D> {
+    // Returns the run of these lines, as it is told of the script that they are from.
+    fn there(self, lines: &SpokenLines) -> Performed<D>
+        ensures run { result.run ≡ self.run }
+        ensures stop { result.stop ≡ option_map (stop_there lines.now.numbers.items) self.stop }
+    {
+        let Performed { run, stop } = self;
+        let stop = match stop {
+            Some(stop) => Some(lines.stop_there(stop)),
+            None => None,
+        };
+        Performed { run, stop }
+    }
+}
+
 /// Returns the header of the history of a run with this setup.
 pub fn header_of(setup: &Setup) -> Header
     ensures header { result ≡ header_of setup.now }
@@ -207,6 +226,48 @@ pub fn save_history<F: Destination>(
     }
 }
 
+// Does this with the record that the options ask for. If there may be comments, the whole script is read first, and the
+// lines that aren't silent are run.
+fn perform_asked<H: Wait, R: Read, W: Write, F: Destination>(
+    rt: &H,
+    alloc: Global,
+    options: &RunOptions,
+    setup: Setup,
+    script: &mut R,
+    out: &mut W,
+    file: &mut F,
+) -> Result<Performed<F::Draft>, Failure>
+    ensures transcript { IfOk result (λ it. HasRunAs options.now.comments options.now.strict setup
+        (R.remaining script.old) (R.remaining script.new)
+        (W.contents out.old) (W.contents out.new) it.stop it.run.history.entries) }
+    ensures lax { IfOk result (λ it. options.now.strict ≡ false → it.stop ≡ None) }
+    ensures legal { IfOk result (λ it. IsLegal (start setup.rules setup.nodes) it.run.history.entries) }
+    ensures entries { IfOk result (λ it. All IsEntry it.run.history.entries) }
+    ensures failure { IfErr result (λ failure.
+        (IsUnread options.now.comments failure × (W.contents out.new ≡ W.contents out.old))
+        ⊎ ((fault : RunFault) × MayEnd setup fault × (failure ≡ failure_of fault)
+        × HasBegunAs options.now.comments options.now.strict setup (R.remaining script.old)
+        (W.contents out.old) (W.contents out.new) fault)) }
+    ensures same { F.contents file.new ≡ F.contents file.old }
+    ensures again { F.blank file.new ≡ F.blank file.old }
+{
+    let header = header_of(&setup);
+    if !options.comments {
+        let record = begin_record(alloc, header, options.save, file);
+        return perform(rt, alloc, setup, options.strict, record, script, out);
+    }
+    let text = read_text(alloc, script)?;
+    let Ok(lines) = SpokenLines::of(alloc, text.as_slice()) else {
+        return Err(Failure::NoMemory);
+    };
+    let record = begin_record(alloc, header, options.save, file);
+    let mut spoken = lines.text.as_slice();
+    match perform(rt, alloc, setup, options.strict, record, &mut spoken, out) {
+        Ok(it) => Ok(it.there(&lines)),
+        Err(failure) => Err(failure),
+    }
+}
+
 // Saves a history, if a file is named for it.
 fn save_where_named<F: Destination>(
     alloc: Global,
@@ -268,9 +329,8 @@ pub fn run<H: Wait, P: Read, R: Read, W: Write, F: Destination>(
         Ok(setup) => setup,
         Err(failure) => return Err(failure),
     };
-    let record = begin_record(alloc, header_of(&setup), options.save, file);
     let header = header_of(&setup);
-    let it = match perform(rt, alloc, setup, options.strict, record, script, out) {
+    let it = match perform_asked(rt, alloc, options, setup, script, out, file) {
         Ok(it) => it,
         Err(failure) => return Err(failure),
     };

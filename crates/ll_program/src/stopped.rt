@@ -1,8 +1,8 @@
-//! What the program prints if a strict run ends early.
+//! What the program prints if a strict run or schedule ends early.
 
-ghost use Rattle.std.specs.Prelude.{◌≡◌, ◌++◌, IfOk, Some, decimal, codes, string_bytes};
+ghost use Rattle.std.specs.Prelude.{◌≡◌, ◌++◌, IfOk, None, Some, decimal, codes, if◌then◌else◌, string_bytes};
 ghost use Rattle.ll_wire.specs.Grammar.{reply_line};
-ghost use Rattle.ll_program.specs.Failure.{stop_line};
+ghost use Rattle.ll_program.specs.Failure.{place_line, stop_line};
 ghost use Rattle.ll_program.specs.Stopped.{bad_line};
 
 use ll_rights::Errno;
@@ -12,12 +12,12 @@ use std::alloc::{AllocError, Global};
 use std::fmt;
 use std::fmt::Display;
 
-/// What is known of a strict run that ended early.
+/// What is known of a strict run, or of a strict schedule, that ended early.
 #[derive(Debug, Drop)]
 pub struct Stopped {
-    /// The line to print: where in the script it ended, and with which reply.
+    /// The line to print: where in the script or the schedule it ended, and with which answer.
     pub line: String,
-    /// The number, from 1, of the script's line that ended it and spells no command.
+    /// The number, from 1, of the line that ended it and spells no command or step.
     pub bad_line: Option<u64>,
 }
 
@@ -29,15 +29,22 @@ impl Display for Stopped {
     }
 }
 
+// Concatenates the file's name, the place and the line that answers the one at that place.
+fn placed(alloc: Global, file: &str, place: &str, answer: &str) -> Result<String, AllocError>
+    ensures { IfOk result (λ text. string_bytes text ≡ file.now ++ place.now ++ answer.now) }
+{
+    let mut text = String::from_str(alloc, file)?;
+    text.push_str(place)?;
+    text.push_str(answer)?;
+    Ok(text)
+}
+
 // Concatenates the script's name, the place and the reply.
 fn told(alloc: Global, script: &str, place: &str, reply: &Reply) -> Result<String, AllocError>
     ensures { IfOk result (λ text. string_bytes text ≡ script.now ++ place.now ++ reply_line reply.now) }
 {
     let reply = reply_line(alloc, reply)?;
-    let mut text = String::from_str(alloc, script)?;
-    text.push_str(place)?;
-    text.push_str(reply.as_str())?;
-    Ok(text)
+    placed(alloc, script, place, reply.as_str())
 }
 
 // Returns the number of a line, between colons.
@@ -76,6 +83,27 @@ impl Stopped {
         Ok(Stopped {
             line,
             bad_line: bad_line(stop),
+        })
+    }
+
+    /// Returns what is known of a schedule in this file that the line with this number, from 1, ended. `answer` is the
+    /// line that answers it; `is_bad` is whether it spells no step. Errors: memory ran out.
+    pub fn at(
+        alloc: Global,
+        file: &str,
+        line: u64,
+        answer: &str,
+        is_bad: bool,
+    ) -> Result<Stopped, AllocError>
+        ensures line { IfOk result (λ stopped. string_bytes stopped.line ≡ place_line file.now line answer.now) }
+        ensures bad { IfOk result (λ stopped. stopped.bad_line ≡ (if is_bad then Some line else None)) }
+    {
+        let place = place_of(alloc, line)?;
+        let text = placed(alloc, file, place.as_str(), answer)?;
+        let bad_line = if is_bad { Some(line) } else { None };
+        Ok(Stopped {
+            line: text,
+            bad_line,
         })
     }
 }

@@ -8,17 +8,27 @@ use clap::ArgMatches;
 use ll_rights::limits::{HISTORY_ENTRIES, TREE_NODES};
 use std::alloc::{AllocError, Global};
 
+/// A command that a client makes in a new tree set up by a policy: the policy file, the client's profile, the commands
+/// that it makes before, and the command.
+#[derive(Clone, Copy)]
+pub struct CommandQuestion<'a, 'w> {
+    pub policy: &'a str,
+    pub profile: &'a str,
+    pub before: &'w [&'a str],
+    pub command: &'a str,
+}
+
 /// What `why` explains.
 #[derive(Clone, Copy)]
-pub enum Question<'a> {
-    /// A command, made in a new tree set up by a policy: the policy file, the client's profile, and the command.
-    Command(&'a str, &'a str, &'a str),
+pub enum Question<'a, 'w> {
+    /// A command.
+    Command(CommandQuestion<'a, 'w>),
     /// The reply of an entry in a saved history: the file (`-` is standard input), and the entry's number from 1.
     Entry(&'a str, u64),
 }
 
-/// The options of `why`: the words, which are a history and an entry's number, or a command; for a command the policy
-/// file and the profile; and the limit of live nodes.
+/// The options of `why`: the words, which are a history and an entry's number, or commands, of which the last is
+/// explained; for commands the policy file and the profile; and the limit of live nodes.
 #[derive(Drop)]
 pub struct WhyOptions<'a> {
     pub words: Vec<&'a str>,
@@ -59,12 +69,18 @@ impl<'a> WhyOptions<'a> {
     }
 
     /// Returns what to explain, if the options fit together.
-    pub fn question(&self) -> Option<Question<'a>>
+    pub fn question(&self) -> Option<Question<'a, '_>>
         ensures { option_map question_of result ≡ asked_by (why_in self.now) }
     {
         match (self.words.as_slice(), self.policy, self.profile) {
-            ([command], Some(policy), Some(profile)) => {
-                Some(Question::Command(policy, profile, command))
+            (words, Some(policy), Some(profile)) => {
+                let (command, before) = words.split_last()?;
+                Some(Question::Command(CommandQuestion {
+                    policy,
+                    profile,
+                    before,
+                    command,
+                }))
             }
             ([history, number], None, None) => {
                 let number = number_in(number, 1, HISTORY_ENTRIES as u64)?;
@@ -74,8 +90,7 @@ impl<'a> WhyOptions<'a> {
         }
     }
 
-    /// Reports whether the options fit together: a history and a number alone, or a command with a policy and a
-    /// profile.
+    /// Reports whether the options fit together: a history and a number alone, or commands with a policy and a profile.
     pub fn fit(&self) -> bool
         ensures { result ≡ fits_why (why_in self.now) }
     {

@@ -15,7 +15,8 @@ returns-clause-app c =
     (ap₂ ◌∷◌ c.profile_option.ensures.rule
     (ap₂ ◌∷◌ c.history_option.ensures.rule
     (ap₂ ◌∷◌ c.save_option.ensures.rule
-    (ap₂ ◌∷◌ c.flag.ensures.rule refl))))))))
+    (ap₂ ◌∷◌ c.flag.ensures.rule
+    (ap₂ ◌∷◌ c.flag-2.ensures.rule refl)))))))))
     c.command_of.ensures.app
 
 pub command_of-requires : goal.command_of-requires
@@ -34,7 +35,7 @@ command_of-requires c =
                 c.history_option.ensures.local,
                 (
                   c.save_option.ensures.local,
-                  (c.flag.ensures.local, tt),
+                  (c.flag.ensures.local, (c.flag-2.ensures.local, tt)),
                 ),
               ),
             ),

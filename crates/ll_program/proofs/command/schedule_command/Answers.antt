@@ -14,7 +14,8 @@ returns-clause-app c =
     (ap₂ ◌∷◌ c.history_option.ensures.rule
     (ap₂ ◌∷◌ c.valued.ensures.rule
     (ap₂ ◌∷◌ c.line_option.ensures.rule
-    (ap₂ ◌∷◌ c.line_option-2.ensures.rule refl)))))))
+    (ap₂ ◌∷◌ c.line_option-2.ensures.rule
+    (ap₂ ◌∷◌ c.flag.ensures.rule refl))))))))
     c.command_of.ensures.app
 
 pub command_of-requires : goal.command_of-requires
@@ -31,7 +32,10 @@ command_of-requires c =
               c.valued.ensures.local,
               (
                 c.line_option.ensures.local,
-                (c.line_option-2.ensures.local, tt),
+                (
+                  c.line_option-2.ensures.local,
+                  (c.flag.ensures.local, tt),
+                ),
               ),
             ),
           ),

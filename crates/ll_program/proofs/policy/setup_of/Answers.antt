@@ -33,5 +33,6 @@ returns-in-Ok-policy_of-clause-setup g c =
     c.by_policy.result
     (same_text (g.R.Read.remaining c.args.file.now) c.as_slice.result.now c.in-Ok.text.items
     c.as_slice.ensures.value c.in-Ok.ensures.text)
-    c.if-is_none.ensures c.in-Ok-policy_of.ensures.plan c.by_policy.ensures.nodes c.by_policy.ensures.history
+    c.if-is_none.ensures (c.in-Ok-policy_of.ensures.utf8, c.in-Ok-policy_of.ensures.right)
+    c.in-Ok-policy_of.ensures.plan c.by_policy.ensures.nodes c.by_policy.ensures.history
     c.by_policy.ensures.setup

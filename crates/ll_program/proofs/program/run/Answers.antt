@@ -2,6 +2,7 @@ use Rattle.std.proofs.Common.{List, Option, inl, inr, refl, subst, ℕ}
 use Rattle.ll_program.specs.Options.{TreeOrder, order_in}
 use Rattle.ll_program.specs.Policy.{IsSaved, IsSetup}
 use Rattle.ll_program.proofs.Known.{lacking}
+use Rattle.ll_program.proofs.Stopping.{failing}
 use Rattle.ll_program.proofs.program.run.Goals as goal
 
 pub returns-in-Err-clause-failure : goal.returns-in-Err-clause-failure
@@ -11,32 +12,35 @@ returns-in-Err-clause-failure g c =
     let l = lacking order c.tree.result h.0 c.in-Err.failure c.tree.ensures c.in-Err.ensures.named h.2 in
     (h.0, h.1, inl (l.0, l.1, refl))
 
-pub returns-in-Err-perform-clause-failure : goal.returns-in-Err-perform-clause-failure
-returns-in-Err-perform-clause-failure g c =
+pub returns-in-Err-perform_asked-clause-failure : goal.returns-in-Err-perform_asked-clause-failure
+returns-in-Err-perform_asked-clause-failure g c =
     let s = c.in-Ok.ensures.setup in
-    let h = c.in-Err-perform.ensures.failure in
-    let set = subst (λ (o : TreeOrder). IsSetup o s.0 c.in-Ok.setup) c.tree.ensures s.2 in
-    (s.0, s.1, inr (inl (c.in-Ok.setup, set, h.0, h.1, h.2, h.3)))
+    let set = subst (λ (o : TreeOrder). IsSetup o s.0 c.in-Ok.setup) c.tree.ensures s.2 in (
+      s.0,
+      s.1,
+      failing (order_in c.args.options.now) s.0 c.in-Ok.setup _ _ _ _ _ set
+          c.in-Err-perform_asked.ensures.failure,
+    )
 
 pub returns-in-Err-conclude-clause-failure : goal.returns-in-Err-conclude-clause-failure
 returns-in-Err-conclude-clause-failure g c =
     let s = c.in-Ok.ensures.setup in
-    let p = c.in-Ok-perform in
+    let p = c.in-Ok-perform_asked in
     let set = subst (λ (o : TreeOrder). IsSetup o s.0 c.in-Ok.setup) c.tree.ensures s.2 in
     let unkept = inl c.in-Err-conclude.ensures.failure in
-    (s.0, s.1, inr (inr (c.in-Ok.setup, set, p.it.stop, p.it.run.history.entries, p.ensures.transcript, unkept)))
+    (s.0, s.1, inr (inr (inr (c.in-Ok.setup, set, p.it.stop, p.it.run.history.entries, p.ensures.transcript, unkept))))
 
 pub returns-in-Err-save_where_named-clause-failure : goal.returns-in-Err-save_where_named-clause-failure
 returns-in-Err-save_where_named-clause-failure g c =
     let s = c.in-Ok.ensures.setup in
-    let p = c.in-Ok-perform in
+    let p = c.in-Ok-perform_asked in
     let set = subst (λ (o : TreeOrder). IsSetup o s.0 c.in-Ok.setup) c.tree.ensures s.2 in
     let unkept = inr c.in-Err-save_where_named.ensures.failure in
-    (s.0, s.1, inr (inr (c.in-Ok.setup, set, p.it.stop, p.it.run.history.entries, p.ensures.transcript, unkept)))
+    (s.0, s.1, inr (inr (inr (c.in-Ok.setup, set, p.it.stop, p.it.run.history.entries, p.ensures.transcript, unkept))))
 
 pub returns-in-Ok-save_where_named-clause-done : goal.returns-in-Ok-save_where_named-clause-done
 returns-in-Ok-save_where_named-clause-done g c =
-    let p = c.in-Ok-perform in
+    let p = c.in-Ok-perform_asked in
     let s = c.in-Ok.ensures.setup in
     let order = order_in c.args.options.now in
     let old = g.F.Destination.contents c.args.file.now in
@@ -54,9 +58,9 @@ returns-in-Ok-save_where_named-clause-done g c =
         p.ensures.transcript,
         p.ensures.lax,
         subst (λ (b : Option (List ℕ)). IsSaved order.save c.in-Ok.setup entries b old new)
-            c.begin_record-record.ensures.again
+            c.perform_asked.ensures.again
             (subst (λ (old : Option (List ℕ)). IsSaved order.save c.in-Ok.setup entries
-            (g.F.Destination.blank c.begin_record-record.new.file) old new) c.begin_record-record.ensures.same saved),
+            (g.F.Destination.blank c.perform_asked.new.file) old new) c.perform_asked.ensures.same saved),
         c.in-Ok-conclude.ensures.end,
       ),
     )
