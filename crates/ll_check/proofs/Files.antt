@@ -180,12 +180,15 @@ with_room order policy room tests old new is rules nodes history loader profile 
     }
     go (Some file) by = (
       by.0,
-      by.1,
-      record {
-        rules = rules ∙ by.2.rules;
-        loader = ap (option_map (λ (x : Vec Call Global). x.items)) loader ∙ by.2.loader;
-        profile = ap (λ (x : Vec Call Global). Some x.items) profile ∙ by.2.profile;
-      },
+      (
+        by.1.0,
+        by.1.1,
+        record {
+          rules = rules ∙ by.1.2.rules;
+          loader = ap (option_map (λ (x : Vec Call Global). x.items)) loader ∙ by.1.2.loader;
+          profile = ap (λ (x : Vec Call Global). Some x.items) profile ∙ by.1.2.profile;
+        },
+      ),
     )
 
 some_text : (file : Option (Bor (List ℕ))) → is_some file ≡ true → is_some (option_map (λ t. t.now) file) ≡ true

@@ -1,5 +1,4 @@
 pub mod Answering
-pub mod Bodies
 pub mod Courses
 pub mod Files
 pub mod Fronts

@@ -11,9 +11,10 @@ use Rattle.ll_seq.specs.declared.call.Call.{Call}
 use Rattle.ll_session.specs.declared.client_call.ClientCall.{ClientCall}
 use Rattle.ll_wire.specs.Grammar.{SpellsCommand, call_tokens, client_tokens, line_of}
 use Rattle.ll_wire.specs.declared.read.TheConstants.{LINE_LIMIT}
-use Rattle.ll_check.specs.Checks.{AreRead, IsSilent, Reading, SaysNothing, SpellsAt, SpellsCall, SpellsSection}
+use Rattle.ll_check.specs.Checks.{AreRead, Reading, SaysNothing, SpellsAt, SpellsCall, SpellsSection}
 use Rattle.ll_check.specs.Checks.{SpellsTest}
-use Rattle.ll_check.specs.Checks.{TakesLine, body_of, has_section, is_name, is_section, tests_of, with_section}
+use Rattle.ll_program.specs.Comments.{body_of, is_silent}
+use Rattle.ll_check.specs.Checks.{TakesLine, has_section, is_name, is_section, tests_of, with_section}
 use Rattle.ll_check.specs.Checks.{with_test}
 use Rattle.ll_check.specs.declared.reading.ReadFile.{ReadFile}
 use Rattle.ll_check.specs.Possible.{CanCome}
@@ -102,9 +103,9 @@ no_wanted_at body rest text place e f none test at =
 
 -- ---- what a line adds
 
-pub silent_taken : (line body : List ℕ) (number : ℕ) (r : Reading) → body ≡ body_of line → IsSilent body
-    → TakesLine line number r r
-silent_taken line body number r e is = inl (subst IsSilent e is, refl)
+pub silent_taken : (line body : List ℕ) (number : ℕ) (r : Reading) → body ≡ body_of line
+    → true ≡ is_silent body → TakesLine line number r r
+silent_taken line body number r e is = inl (sym (is ∙ ap is_silent e), refl)
 
 pub test_taken : (line body : List ℕ) (number : ℕ) (before after : Reading) (test : Test) → body ≡ body_of line
     → SpellsTest body test × (test.line ≡ number) → CanCome test.call.call test.wanted
@@ -118,28 +119,31 @@ pub section_taken : (line body name : List ℕ) (number : ℕ) (before after : R
 section_taken line body name number before after e is new same =
     inr (inr (name, subst (λ (b : List ℕ). SpellsSection b name) e is, new, same))
 
-pub says_nothing : (line body : List ℕ) (r : Reading) → body ≡ body_of line → (IsSilent body → ⊥)
+pub says_nothing : (line body : List ℕ) (r : Reading) → body ≡ body_of line
+    → false ≡ is_silent body
     → ((test : Test) → SpellsTest body test → ⊥) → ((name : List ℕ) → SpellsSection body name → ⊥)
     → SaysNothing line r
 says_nothing line body r e silent none other = (
-  λ is. silent (subst IsSilent (sym e) is),
+  sym (silent ∙ ap is_silent e),
   inl (
     λ test is. none test (subst (λ (b : List ℕ). SpellsTest b test) (sym e) is),
     λ name is. other name (subst (λ (b : List ℕ). SpellsSection b name) (sym e) is),
   ),
 )
 
-pub says_vain : (line body : List ℕ) (r : Reading) (test : Test) → body ≡ body_of line → (IsSilent body → ⊥)
+pub says_vain : (line body : List ℕ) (r : Reading) (test : Test) → body ≡ body_of line
+    → false ≡ is_silent body
     → SpellsTest body test → (CanCome test.call.call test.wanted → ⊥) → SaysNothing line r
 says_vain line body r test e silent is vain = (
-  λ quiet. silent (subst IsSilent (sym e) quiet),
+  sym (silent ∙ ap is_silent e),
   inr (inl (test, subst (λ (b : List ℕ). SpellsTest b test) e is, vain)),
 )
 
-pub says_twice : (line body name : List ℕ) (r : Reading) → body ≡ body_of line → (IsSilent body → ⊥)
+pub says_twice : (line body name : List ℕ) (r : Reading) → body ≡ body_of line
+    → false ≡ is_silent body
     → SpellsSection body name → has_section r name ≡ true → SaysNothing line r
 says_twice line body name r e silent is twice = (
-  λ quiet. silent (subst IsSilent (sym e) quiet),
+  sym (silent ∙ ap is_silent e),
   inr (inr (name, subst (λ (b : List ℕ). SpellsSection b name) e is, twice)),
 )
 

@@ -4,6 +4,7 @@ use Rattle.std.specs.Prelude.{◌&&◌, ◌||◌, Bool, true, false, if◌then�
 use Rattle.std.specs.List.{All, list_all, list_any}
 use Rattle.std.specs.Str.{bytes_eq}
 use Rattle.ll_session.specs.declared.client_call.ClientCall.{ClientCall}
+use Rattle.ll_program.specs.Comments.{body_of, is_silent}
 use Rattle.ll_wire.specs.Grammar.{SpellsCommand}
 use Rattle.ll_check.specs.declared.reading.ReadFile.{ReadFile}
 use Rattle.ll_check.specs.declared.reading.ReadLines.{ReadLines}
@@ -11,16 +12,6 @@ use Rattle.ll_check.specs.declared.reading.Test.{Test}
 use Rattle.ll_check.specs.declared.wanted.Wanted.TheVariants.{Success}
 use Rattle.ll_check.specs.Possible.{CanCome}
 use Rattle.ll_check.specs.Wanted.{SpellsWanted}
-
--- a line without its line feed (10), which only the last line of a file may lack
-abbrev pub body_of : List ℕ → List ℕ
-body_of [] = []
-body_of (b ∷ []) = if b == 10 then [] else b ∷ []
-body_of (b ∷ c ∷ bytes) = b ∷ body_of (c ∷ bytes)
-
--- only spaces, or a comment, which begins with `#` (35)
-abbrev pub IsSilent : List ℕ → Type 0
-IsSilent body = All (λ b. b ≡ 32) body ⊎ (slice_get body 0 ≡ Some 35)
 
 -- a command as in a script, of any client that a session may have
 abbrev pub SpellsCall : List ℕ → ClientCall → Type 0
@@ -97,7 +88,7 @@ has_section r section = list_any (is_section section) r.done || is_section secti
 -- the line is neither silent nor a test nor the beginning of a section; or a vain test; or a section's name once more
 abbrev pub SaysNothing : List ℕ → (before : Reading) → Type 0
 SaysNothing line before =
-    (IsSilent (body_of line) → ⊥)
+    (is_silent (body_of line) ≡ false)
     × ((((test : Test) → SpellsTest (body_of line) test → ⊥)
     × ((section : List ℕ) → SpellsSection (body_of line) section → ⊥))
     ⊎ ((test : Test) × SpellsTest (body_of line) test × IsVain test)
@@ -106,7 +97,7 @@ SaysNothing line before =
 -- the line with this number is silent; or adds its test, which may pass; or begins a section, whose name is new
 abbrev pub TakesLine : (line : List ℕ) → (number : ℕ) → (before after : Reading) → Type 0
 TakesLine line number before after =
-    (IsSilent (body_of line) × (after ≡ before))
+    ((is_silent (body_of line) ≡ true) × (after ≡ before))
     ⊎ ((test : Test) × SpellsTest (body_of line) test × (test.line ≡ number) × CanCome test.call.call test.wanted
     × (after ≡ with_test before test))
     ⊎ ((section : List ℕ) × SpellsSection (body_of line) section × (has_section before section ≡ false)

@@ -15,7 +15,7 @@ use Rattle.ll_check.specs.declared.judging.Style.TheVariants.{Quiet, Usual, Verb
 use Rattle.ll_check.specs.declared.judging.Tally.{Tally}
 use Rattle.ll_check.specs.declared.reading.Test.{Test}
 use Rattle.ll_check.specs.declared.wanted.Wanted.{Wanted}
-use Rattle.ll_check.specs.Checks.{body_of}
+use Rattle.ll_program.specs.Comments.{body_of}
 use Rattle.ll_check.specs.Styles.{Texts, json_test, junit_test, tap_test}
 use Rattle.ll_check.specs.Wanted.{Satisfies, wanted_text}
 

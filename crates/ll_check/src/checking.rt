@@ -7,16 +7,16 @@ ghost use Rattle.ll_check.specs.Replied.{HasReplies};
 ghost use Rattle.ll_wire.specs.Entries.{IsEntry};
 
 use crate::judging::{Reporter, Style, Tally};
-use crate::lines::body_of;
 use crate::reading::Test;
 use crate::refusing::{push_refusal, refusal_text};
+use crate::runner::Runner;
 use crate::running::make;
 use crate::styles::{Syntax, TestTexts};
+use ll_program::body_of;
 use ll_seq::{Entry, History, Reply};
 use ll_session::{CallReplies, RunFault, Setup};
 use ll_wire::{SessionFault, escaped};
 use std::alloc::AllocError;
-use std::sync::Wait;
 
 // Returns the syntax of a report that isn't lines of text.
 fn syntax_of(style: Style) -> Option<Syntax> {
@@ -93,8 +93,8 @@ pub struct CheckedFile {
 
 /// Makes a section's tests in a tree of its own, judges the replies, and appends the report. Errors: a fault of the
 /// run, or memory ran out.
-pub fn check_file<R: Wait>(
-    rt: &R,
+pub fn check_file<R: Runner>(
+    runner: &R,
     out: &mut Vec<u8>,
     reporter: &Reporter<'_>,
     setup: Setup,
@@ -105,7 +105,7 @@ pub fn check_file<R: Wait>(
         checked.tally) }
     ensures fault { IfErr result (λ fault. MayEnd setup fault) }
 {
-    let (made, history) = make(rt, reporter.alloc, setup, tests)?;
+    let (made, history) = make(runner, reporter.alloc, setup, tests)?;
     match reporter.report(out, tests, &made, &history) {
         Ok(tally) => Ok(CheckedFile {
             tally,

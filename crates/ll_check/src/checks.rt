@@ -14,13 +14,13 @@ ghost use Rattle.ll_check.specs.Files.{end_of, room_for, source_of, style_of};
 ghost use Rattle.ll_check.specs.Styles.{head, tail};
 
 use crate::reading::{ReadFile, read_sections};
+use crate::runner::Runner;
 use crate::{CheckFault, LinesOf, Notes, Reporter, Style, Tally, check_file, explain, tell_denied};
 use ll_program::{CheckOptions, Checked, Failure, ReportForm, header_of, setup_of, write_bytes};
 use ll_rights::limits::HISTORY_ENTRIES;
 use ll_session::Setup;
 use std::alloc::{AllocError, Global};
 use std::io::Write;
-use std::sync::Wait;
 
 /// A file of checks: its name, and its whole text.
 #[derive(Drop)]
@@ -133,8 +133,8 @@ fn style_of(options: &CheckOptions) -> Style
 }
 
 // Checks a section, and appends its report.
-fn check_one<R: Wait, N: Notes>(
-    rt: &R,
+fn check_one<R: Runner, N: Notes>(
+    runner: &R,
     alloc: Global,
     input: &CheckInput<'_, '_>,
     file: &ReadFile<'_>,
@@ -154,7 +154,7 @@ fn check_one<R: Wait, N: Notes>(
         file: file.name.as_bytes(),
         section: file.section.as_slice(),
     };
-    let checked = match check_file(rt, report, &reporter, setup, tests) {
+    let checked = match check_file(runner, report, &reporter, setup, tests) {
         Ok(checked) => checked,
         Err(fault) => return Err(Failure::of_run(fault)),
     };
@@ -193,8 +193,8 @@ impl Tally {
 }
 
 // Checks all sections, one after the other.
-fn check_all<R: Wait, N: Notes>(
-    rt: &R,
+fn check_all<R: Runner, N: Notes>(
+    runner: &R,
     alloc: Global,
     input: &CheckInput<'_, '_>,
     files: &[ReadFile<'_>],
@@ -207,7 +207,7 @@ fn check_all<R: Wait, N: Notes>(
 {
     let mut sum = Tally::empty();
     for file in files {
-        let tally = check_one(rt, alloc, input, file, report, notes)?;
+        let tally = check_one(runner, alloc, input, file, report, notes)?;
         sum = sum.plus(tally)?;
     }
     Ok(sum)
@@ -276,8 +276,8 @@ fn report_around(
 }
 
 // Checks the sections that were read, and writes the report.
-fn conclude<R: Wait, W: Write, N: Notes>(
-    rt: &R,
+fn conclude<R: Runner, W: Write, N: Notes>(
+    runner: &R,
     alloc: Global,
     input: &CheckInput<'_, '_>,
     files: &[ReadFile<'_>],
@@ -292,7 +292,7 @@ fn conclude<R: Wait, W: Write, N: Notes>(
         (W.contents out.old) (W.contents out.new)) }
 {
     let mut tests = Vec::new(alloc);
-    let sum = check_all(rt, alloc, input, files, &mut tests, notes)?;
+    let sum = check_all(runner, alloc, input, files, &mut tests, notes)?;
     let Ok(report) = report_around(alloc, style_of(input.options), tests.as_slice(), sum) else {
         return Err(Failure::NoMemory);
     };
@@ -344,8 +344,8 @@ pub(crate) fn tell_bad<E: Write>(
 /// printed there too, and a policy without a chosen profile. If notes are wanted, they get each test that is shown and
 /// fails by a denial, or because none came. Errors: the policy's text gives no setup, a call of the policy's loader is
 /// refused, `out` fails, or memory ran out.
-pub fn check<R: Wait, W: Write, E: Write, N: Notes>(
-    rt: &R,
+pub fn check<R: Runner, W: Write, E: Write, N: Notes>(
+    runner: &R,
     alloc: Global,
     input: &CheckInput<'_, '_>,
     out: &mut W,
@@ -365,5 +365,5 @@ pub fn check<R: Wait, W: Write, E: Write, N: Notes>(
     };
     tell_no_profile(input.options, err);
     tell_untested(files.as_slice(), err);
-    conclude(rt, alloc, input, files.as_slice(), out, notes)
+    conclude(runner, alloc, input, files.as_slice(), out, notes)
 }

@@ -1,9 +1,9 @@
 //! What is wrong with a line that is neither silent nor a test. No contract says what is printed: it helps whoever
 //! wrote it.
 
-use crate::lines::body_of;
 use crate::wanted::{read_wanted, verdict_of};
 use ll_policy::rights_meant;
+use ll_program::body_of;
 use ll_rights::limits::WORD_BYTES;
 use ll_rights::{Access, Errno, Kind, Right};
 use ll_wire::{LINE_LIMIT, read_first_words, split_line};
@@ -26,6 +26,8 @@ const BYTE_ORDER_MARK: &[u8] = b"\xef\xbb\xbf";
 pub enum LinesOf {
     /// A script: each line is a command, of any client that has come.
     Script,
+    /// A script with comments.
+    Commented,
     /// A file of checks, which also has comments, and replies after the sign `=`.
     Checks,
     /// A schedule: each line is a step.
@@ -37,7 +39,9 @@ pub enum LinesOf {
 impl LinesOf {
     fn command_text(self, column: usize) -> &'static str {
         match self {
-            LinesOf::Checks if column == 1 => "a command is expected, or a comment",
+            LinesOf::Checks | LinesOf::Commented if column == 1 => {
+                "a command is expected, or a comment"
+            }
             LinesOf::Schedule if column == 1 => "a step is expected: connect, or a client as @1",
             _ => "a command is expected",
         }
@@ -46,14 +50,18 @@ impl LinesOf {
     fn client_text(self) -> &'static str {
         match self {
             LinesOf::Word => "a command is expected, without a client in front",
-            LinesOf::Script | LinesOf::Checks => "a client is expected: @2 to @64",
+            LinesOf::Script | LinesOf::Commented | LinesOf::Checks => {
+                "a client is expected: @2 to @64"
+            }
             LinesOf::Schedule => "a client is expected: @1 to @64",
         }
     }
 
     fn end_text(self) -> &'static str {
         match self {
-            LinesOf::Script | LinesOf::Schedule => "the line's end is expected",
+            LinesOf::Script | LinesOf::Commented | LinesOf::Schedule => {
+                "the line's end is expected"
+            }
             LinesOf::Checks => "the line's end is expected, or = and a reply",
             LinesOf::Word => "the command's end is expected",
         }
@@ -62,7 +70,7 @@ impl LinesOf {
     // Reports whether such a line may name a client.
     fn names_client(self, token: &str) -> bool {
         match self {
-            LinesOf::Script | LinesOf::Checks => is_client(token, 2),
+            LinesOf::Script | LinesOf::Commented | LinesOf::Checks => is_client(token, 2),
             LinesOf::Schedule => is_client(token, 1),
             LinesOf::Word => false,
         }
@@ -285,7 +293,9 @@ fn step<'a>(
             }
             match of {
                 LinesOf::Schedule => Ok(Ok(Stage::Verb)),
-                LinesOf::Script | LinesOf::Checks | LinesOf::Word => Ok(Ok(Stage::Start)),
+                LinesOf::Script | LinesOf::Commented | LinesOf::Checks | LinesOf::Word => {
+                    Ok(Ok(Stage::Start))
+                }
             }
         }
         Stage::Start if column == 1 && of == LinesOf::Schedule => match token {
@@ -393,14 +403,18 @@ fn blame_whole(of: LinesOf, command: &str, column: usize, is_ended: bool) -> Opt
         LinesOf::Script | LinesOf::Schedule if !is_ended => {
             Some(Blame::new(column, "a line feed is expected"))
         }
-        LinesOf::Script if command.starts_with('@') => {
+        LinesOf::Script | LinesOf::Commented if command.starts_with('@') => {
             Some(Blame::new(1, "a client that was spawned is expected"))
         }
         LinesOf::Schedule if command.starts_with('@') => {
             Some(Blame::new(1, "a client that has come is expected"))
         }
         LinesOf::Word if is_ended => Some(Blame::new(column, of.end_text())),
-        LinesOf::Script | LinesOf::Checks | LinesOf::Schedule | LinesOf::Word => None,
+        LinesOf::Script
+        | LinesOf::Commented
+        | LinesOf::Checks
+        | LinesOf::Schedule
+        | LinesOf::Word => None,
     }
 }
 

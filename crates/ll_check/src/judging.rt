@@ -7,10 +7,10 @@ ghost use Rattle.ll_session.specs.CallsRun.{call_line};
 ghost use Rattle.ll_check.specs.Report.{Judges, expected, judged, label, plain, shown, texts, titled};
 ghost use Rattle.ll_check.specs.Styles.{test_in};
 
-use crate::lines::body_of;
 use crate::reading::Test;
 use crate::styles::{Syntax, TestTexts};
 use crate::wanted::{Wanted, push_wanted};
+use ll_program::body_of;
 use ll_seq::Reply;
 use ll_session::reply_line;
 use ll_wire::{command_text, escaped, is_spelled};

@@ -21,6 +21,7 @@ use crate::checks::{NamedText, have_tests, read_all, tell_bad, tell_untested};
 use crate::denied::Notes;
 use crate::lessons::{FileLessons, LessonNotes, lessons_in};
 use crate::reading::ReadFile;
+use crate::runner::Runner;
 use crate::teaching::teach_all;
 use crate::trees::Trees;
 use crate::trial::pass_under;
@@ -36,7 +37,6 @@ use ll_session::Setup;
 use ll_wire::{Header, write_whole};
 use std::alloc::Global;
 use std::io::Write;
-use std::sync::Wait;
 
 /// What is to be learned from: the options, the text of the policy that they name, and the files.
 #[derive(Clone, Copy)]
@@ -194,8 +194,8 @@ fn profile_by<E: Write>(
 }
 
 // Learns from all lessons. None if one doesn't get the reply that it says, or nothing is learned, which is printed.
-fn taught_by<R: Wait, E: Write>(
-    rt: &R,
+fn taught_by<R: Runner, E: Write>(
+    runner: &R,
     trees: &Trees<'_, '_>,
     request: &Request<'_>,
     lessons: &[FileLessons<'_>],
@@ -214,7 +214,7 @@ fn taught_by<R: Wait, E: Write>(
         Ok(blank) => blank,
         Err(failure) => return Err(failure),
     };
-    let histories = match teach_all(rt, trees, lessons, err) {
+    let histories = match teach_all(runner, trees, lessons, err) {
         Ok(Some(histories)) => histories,
         Ok(None) => return Ok(None),
         Err(failure) => return Err(failure),
@@ -249,9 +249,9 @@ fn are_few<E: Write>(request: &Request<'_>, profile: &LearnedProfile, err: &mut 
 
 impl Lesson {
     // Reports whether all tests of all files pass under the profile. Prints those that don't.
-    fn passes<R: Wait, E: Write, N: Notes>(
+    fn passes<R: Runner, E: Write, N: Notes>(
         &self,
-        rt: &R,
+        runner: &R,
         trees: &Trees<'_, '_>,
         lessons: &[FileLessons<'_>],
         files: &[ReadFile<'_>],
@@ -275,7 +275,7 @@ impl Lesson {
             client: self.client,
             file: 0,
         };
-        pass_under(rt, trees, &candidate, files, err, notes)
+        pass_under(runner, trees, &candidate, files, err, notes)
     }
 
     // Returns the rights that rules on directories have only for what is made there. None if that isn't known.
@@ -315,8 +315,8 @@ impl Lesson {
 
 // Returns the text of the profile that the files teach, and under which their tests pass. None if there is none, which
 // is printed.
-fn text_of<R: Wait, E: Write, N: Notes>(
-    rt: &R,
+fn text_of<R: Runner, E: Write, N: Notes>(
+    runner: &R,
     trees: &Trees<'_, '_>,
     request: &Request<'_>,
     files: &[ReadFile<'_>],
@@ -339,7 +339,7 @@ fn text_of<R: Wait, E: Write, N: Notes>(
         Ok(lessons) => lessons,
         Err(failure) => return Err(failure),
     };
-    let lesson = match taught_by(rt, trees, request, lessons.as_slice(), err) {
+    let lesson = match taught_by(runner, trees, request, lessons.as_slice(), err) {
         Ok(Some(lesson)) => lesson,
         Ok(None) => return Ok(None),
         Err(failure) => return Err(failure),
@@ -347,7 +347,7 @@ fn text_of<R: Wait, E: Write, N: Notes>(
     if !are_few(request, &lesson.profile, err) {
         return Err(Failure::CommandLine);
     }
-    match lesson.passes(rt, trees, lessons.as_slice(), files, err, notes) {
+    match lesson.passes(runner, trees, lessons.as_slice(), files, err, notes) {
         Ok(true) => {}
         Ok(false) => return Ok(None),
         Err(failure) => return Err(failure),
@@ -367,8 +367,8 @@ fn text_of<R: Wait, E: Write, N: Notes>(
 /// printed to `err`: a bad line, a file without a test, a test that isn't met, nothing that can be learned. Errors: a
 /// word is wrong, a path of the words leads to no node, or there are more rules than they allow; the policy's text
 /// gives no setup; a call of its loader is refused; `out` fails; memory ran out.
-pub fn learn_files<R: Wait, W: Write, E: Write, N: Notes>(
-    rt: &R,
+pub fn learn_files<R: Runner, W: Write, E: Write, N: Notes>(
+    runner: &R,
     alloc: Global,
     input: &LearnInput<'_, '_>,
     out: &mut W,
@@ -395,7 +395,7 @@ pub fn learn_files<R: Wait, W: Write, E: Write, N: Notes>(
         options: input.options,
         policy: input.policy,
     };
-    let text = match text_of(rt, &trees, &request, files.as_slice(), err, notes) {
+    let text = match text_of(runner, &trees, &request, files.as_slice(), err, notes) {
         Ok(Some(text)) => text,
         Ok(None) => return Ok(Checked::Failed),
         Err(failure) => return Err(failure),

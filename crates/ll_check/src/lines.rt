@@ -1,20 +1,8 @@
 //! A text's lines.
 
 ghost use Rattle.std.specs.Prelude.{◌≡◌, ◌∷◌, ◌++◌, [], List, ℕ, IfOk, IfSome, IfNone};
-ghost use Rattle.ll_check.specs.Checks.{body_of};
 
 use std::alloc::{AllocError, Global};
-
-/// Returns a line without its line feed, if it has one.
-#[tactic(auto, using(crate::proofs::Bodies::if_ended, crate::proofs::Bodies::if_open, crate::proofs::Bodies::if_empty))]
-pub fn body_of(line: &[u8]) -> &[u8]
-    ensures { result.now ≡ body_of line.now }
-{
-    let Some((last, body)) = line.split_last() else {
-        return line;
-    };
-    if *last == b'\n' { body } else { line }
-}
 
 /// Returns the bytes with a line feed appended. Errors: memory ran out.
 pub fn ended(alloc: Global, text: &[u8]) -> Result<Vec<u8>, AllocError>

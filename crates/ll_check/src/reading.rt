@@ -5,16 +5,17 @@ ghost use Rattle.std.specs.Prelude.{MatchBool, OnOk};
 ghost use Rattle.std.specs.List.{list_all, list_any};
 ghost use Rattle.ll_wire.specs.Pieces.{pieces};
 ghost use Rattle.ll_wire.specs.Reads.{Finds};
-ghost use Rattle.ll_check.specs.Checks.{AreSections, IsFirstBad, IsSilent, SaysNothing, SpellsAt, SpellsCall};
+ghost use Rattle.ll_check.specs.Checks.{AreSections, IsFirstBad, SaysNothing, SpellsAt, SpellsCall};
 ghost use Rattle.ll_check.specs.Checks.{SpellsSection, SpellsTest, TakesLine, all_of, at_start, has_section, has_test};
 ghost use Rattle.ll_check.specs.Checks.{is_blank, is_name, is_of_name, is_section, reading_of, tests_of, with_section};
 ghost use Rattle.ll_check.specs.Checks.{with_test};
 ghost use Rattle.ll_check.specs.declared.reading.CheckFault.{CheckFault};
 ghost use Rattle.ll_check.specs.declared.reading.Test.{Test};
 
-use crate::lines::{body_of, ended, strip_back, strip_front};
+use crate::lines::{ended, strip_back, strip_front};
 use crate::possible::can_come;
 use crate::wanted::{Wanted, read_wanted};
+use ll_program::{body_of, is_silent};
 use ll_rights::Errno;
 use ll_rights::limits::TREE_CLIENTS;
 use ll_session::ClientCall;
@@ -78,12 +79,6 @@ pub enum CheckFault {
     BadLine(usize),
     #[error("no memory for the tests")]
     NoMemory,
-}
-
-fn is_silent(body: &[u8]) -> bool
-    ensures { MatchBool result (IsSilent body.now) (IsSilent body.now → ⊥) }
-{
-    body.iter().all(|b| *b == b' ') || body.first() == Some(&b'#')
 }
 
 // Returns the call that the text spells, of any client that a session may have.

@@ -8,13 +8,13 @@ ghost use Rattle.ll_wire.specs.Entries.{IsEntry};
 ghost use Rattle.ll_check.specs.Lessons.{is_no_memory, ran_out};
 
 use crate::reading::Test;
+use crate::runner::Runner;
 use ll_program::Failure;
 use ll_rights::Errno;
 use ll_seq::{History, Reply};
-use ll_session::{CallReplies, ClientCall, RunFault, Setup, run_calls};
+use ll_session::{CallReplies, ClientCall, RunFault, Setup};
 use ll_wire::SessionFault;
 use std::alloc::{AllocError, Global};
-use std::sync::Wait;
 
 // Returns the calls of the tests.
 fn calls_of(alloc: Global, tests: &[Test]) -> Result<Vec<ClientCall>, AllocError>
@@ -40,8 +40,8 @@ fn calls_of_lessons(alloc: Global, lessons: &[&Test]) -> Result<Vec<ClientCall>,
 
 /// Makes the calls of a file's tests in a tree of its own. Returns the replies and the tree's history. Errors: a fault
 /// of the run, or memory ran out.
-pub fn make<R: Wait>(
-    rt: &R,
+pub fn make<R: Runner>(
+    runner: &R,
     alloc: Global,
     setup: Setup,
     tests: &[Test],
@@ -52,14 +52,14 @@ pub fn make<R: Wait>(
     ensures fault { IfErr result (λ fault. MayEnd setup fault) }
 {
     match calls_of(alloc, tests) {
-        Ok(calls) => run_calls(rt, alloc, setup, calls),
+        Ok(calls) => runner.run(alloc, setup, calls),
         Err(_) => Err(RunFault::Session(SessionFault::NoMemory)),
     }
 }
 
 /// Makes the calls of a file's lessons in a tree of its own. Returns the replies and the tree's history.
-pub(crate) fn make_lessons<R: Wait>(
-    rt: &R,
+pub(crate) fn make_lessons<R: Runner>(
+    runner: &R,
     alloc: Global,
     setup: Setup,
     lessons: &[&Test],
@@ -69,7 +69,7 @@ pub(crate) fn make_lessons<R: Wait>(
     ensures fault { IfErr result (λ fault. MayEnd setup fault) }
 {
     match calls_of_lessons(alloc, lessons) {
-        Ok(calls) => run_calls(rt, alloc, setup, calls),
+        Ok(calls) => runner.run(alloc, setup, calls),
         Err(_) => Err(RunFault::Session(SessionFault::NoMemory)),
     }
 }

@@ -11,6 +11,7 @@ use crate::judging::{Reporter, Style};
 use crate::lessons::FileLessons;
 use crate::reading::Test;
 use crate::refusing::push_refusal;
+use crate::runner::Runner;
 use crate::running::{failure_of, make_lessons, ran_out};
 use crate::trees::Trees;
 use crate::wanted::is_allowed;
@@ -18,7 +19,6 @@ use ll_program::Failure;
 use ll_seq::{History, Reply};
 use ll_session::CallReplies;
 use std::io::Write;
-use std::sync::Wait;
 
 // Reports whether the reply is as the lesson says, and the call has an entry in the history.
 fn is_learned_from(lesson: &Test, reply: &Reply) -> bool
@@ -91,8 +91,8 @@ fn are_answered<E: Write>(
 
 // Returns the history of a file's lessons, which are made in a tree of its own. None if one doesn't get the reply that
 // it says, which is printed.
-fn teach<R: Wait, E: Write>(
-    rt: &R,
+fn teach<R: Runner, E: Write>(
+    runner: &R,
     trees: &Trees<'_, '_>,
     file: &FileLessons<'_>,
     err: &mut E,
@@ -108,7 +108,7 @@ fn teach<R: Wait, E: Write>(
         Ok(setup) => setup,
         Err(failure) => return Err(failure),
     };
-    let (made, history) = match make_lessons(rt, trees.alloc, setup, lessons) {
+    let (made, history) = match make_lessons(runner, trees.alloc, setup, lessons) {
         Ok(done) => done,
         Err(fault) => return Err(failure_of(fault)),
     };
@@ -130,8 +130,8 @@ fn teach<R: Wait, E: Write>(
 
 /// Returns the histories of all files' lessons, each of a tree of its own. None if a lesson doesn't get the reply that
 /// it says, which is printed.
-pub(crate) fn teach_all<R: Wait, E: Write>(
-    rt: &R,
+pub(crate) fn teach_all<R: Runner, E: Write>(
+    runner: &R,
     trees: &Trees<'_, '_>,
     files: &[FileLessons<'_>],
     err: &mut E,
@@ -145,7 +145,7 @@ pub(crate) fn teach_all<R: Wait, E: Write>(
 {
     let mut histories = Vec::new(trees.alloc);
     for file in files {
-        let history = match teach(rt, trees, file, err) {
+        let history = match teach(runner, trees, file, err) {
             Ok(Some(history)) => history,
             Ok(None) => return Ok(None),
             Err(failure) => return Err(failure),

@@ -9,6 +9,7 @@ use crate::checking::check_file;
 use crate::denied::{Notes, tell_denied};
 use crate::judging::{Reporter, Style};
 use crate::reading::ReadFile;
+use crate::runner::Runner;
 use crate::running::{failure_of, ran_out};
 use crate::trees::Trees;
 use crate::undenied::Candidate;
@@ -16,11 +17,10 @@ use ll_learn::Basis;
 use ll_program::{Failure, header_of};
 use ll_session::CallReplies;
 use std::io::Write;
-use std::sync::Wait;
 
 // Reports whether all tests of a file pass if its first client has the profile's layer. Prints those that don't.
-fn passes_under<R: Wait, E: Write, N: Notes>(
-    rt: &R,
+fn passes_under<R: Runner, E: Write, N: Notes>(
+    runner: &R,
     trees: &Trees<'_, '_>,
     candidate: &Candidate<'_, '_>,
     file: &ReadFile<'_>,
@@ -47,7 +47,7 @@ fn passes_under<R: Wait, E: Write, N: Notes>(
         section: file.section.as_slice(),
     };
     let mut report = Vec::new(trees.alloc);
-    let checked = match check_file(rt, &mut report, &reporter, setup, tests) {
+    let checked = match check_file(runner, &mut report, &reporter, setup, tests) {
         Ok(checked) => checked,
         Err(fault) => return Err(failure_of(fault)),
     };
@@ -77,8 +77,8 @@ fn both(pass: bool, passes: bool) -> bool
 }
 
 /// Reports whether all tests of all files pass under the candidate's profile. Prints those that don't.
-pub(crate) fn pass_under<R: Wait, E: Write, N: Notes>(
-    rt: &R,
+pub(crate) fn pass_under<R: Runner, E: Write, N: Notes>(
+    runner: &R,
     trees: &Trees<'_, '_>,
     candidate: &Candidate<'_, '_>,
     files: &[ReadFile<'_>],
@@ -92,7 +92,7 @@ pub(crate) fn pass_under<R: Wait, E: Write, N: Notes>(
     let mut pass = true;
     let mut tried = *candidate;
     for file in files {
-        match passes_under(rt, trees, &tried, file, err, notes) {
+        match passes_under(runner, trees, &tried, file, err, notes) {
             Ok(passes) => pass = both(pass, passes),
             Err(failure) => return Err(failure),
         }
