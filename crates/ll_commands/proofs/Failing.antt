@@ -1,7 +1,7 @@
 -- Why nothing is told.
 use Rattle.std.specs.Prelude.{◌≡◌, ◌⊎◌, ℕ, List, Option, Some, None, refl}
 use Rattle.std.proofs.Common.{inl, inr}
-use Rattle.ll_seq.specs.declared.call.Call.{Call}
+use Rattle.clap.specs.Words.{Text}
 use Rattle.ll_program.specs.Options.{Asked, TreeOrder, of_command, of_entry}
 use Rattle.ll_program.specs.Policy.{IsSetup}
 use Rattle.ll_program.specs.declared.failure.Failure.{Failure}
@@ -9,12 +9,12 @@ use Rattle.ll_program.specs.declared.failure.Failure.TheVariants.{CommandLine, P
 use Rattle.ll_program.specs.declared.failure.Failure.TheVariants.{NoMemory}
 use Rattle.ll_session.specs.declared.setup.Setup.{Setup}
 use Rattle.ll_commands.specs.Opening.{FailsSo, IsStopped}
-use Rattle.ll_commands.specs.Why.{Answers, CommandFails, EntryFails, Fails, IsCommand}
+use Rattle.ll_commands.specs.Why.{Answers, CommandFails, EntryFails, Fails, HasNoCommand, IsNoCommand}
 use Rattle.ll_commands.specs.declared.why.Answer.{Answer}
 
-module _ (run : TreeOrder) (word file : List ℕ) where
+module _ (run : TreeOrder) (before : List Text) (word file : List ℕ) where
   pub by_word : (f : Failure) → (f ≡ CommandLine) ⊎ (f ≡ NoMemory)
-      → (f ≡ CommandLine → (call : Call) → IsCommand word call → ⊥) → CommandFails run word file f
+      → (f ≡ CommandLine → IsNoCommand word ⊎ HasNoCommand before) → CommandFails run before word file f
   by_word CommandLine is none = inl (none refl)
   by_word (Policy fault) (inl e) none = absurd (cc e)
   by_word (Policy fault) (inr e) none = absurd (cc e)
@@ -28,7 +28,7 @@ module _ (run : TreeOrder) (word file : List ℕ) where
   by_word NoMemory is none = tt
 
   pub by_opening : (setup : Setup) (f : Failure) → IsSetup run file setup → FailsSo (IsStopped setup) f
-      → CommandFails run word file f
+      → CommandFails run before word file f
   by_opening setup CommandLine is fails = absurd fails
   by_opening setup (Policy fault) is fails = absurd fails
   by_opening setup Opening is fails = (setup, is, fails)
@@ -56,4 +56,4 @@ pub lacks_memory : (nodes : ℕ) (asked : Option Asked) (file : List ℕ) (answe
     → Answers nodes asked file answer → Fails nodes asked file NoMemory
 lacks_memory nodes None file answer is = absurd is
 lacks_memory nodes (Some (of_entry history number)) file answer is = tt
-lacks_memory nodes (Some (of_command policy profile word)) file answer is = tt
+lacks_memory nodes (Some (of_command policy profile before word)) file answer is = tt

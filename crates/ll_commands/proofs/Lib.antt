@@ -7,8 +7,8 @@ pub mod Hosted
 pub mod Lessons
 pub mod Loadings
 pub mod Numbers
+pub mod Spelled
 pub mod Rows
 pub mod Stopping
-pub mod Texts
 pub mod Written
 pub mod Performed

@@ -27,9 +27,10 @@ loads_next s None t is few = let same = ap (λ (z : State). z.next) is in omega 
 loads_next s (Some calls) t h few =
     let made = makes_next h.0 s (Connect ∷ calls.items) t h.1.1 in omega (arith, made, few)
 
+-- numbers are left for as many calls as a list has
 pub opens_next : (setup : Setup) (client : ℕ) (t : State) → Opens setup client t
     → length setup.profile.items < 2 ^ 62 → IfSome setup.loader (λ calls. length calls.items < 2 ^ 62)
-    → t.next < 2 ^ 64 - 1
+    → t.next + 2 ^ 62 < 2 ^ 64 - 1
 opens_next setup client t h few loaded =
     let before : h.0.next ≤ 2 + 2 ^ 62 =
     loads_next (start setup.rules setup.nodes) setup.loader h.0 h.1 loaded in

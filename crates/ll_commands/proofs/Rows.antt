@@ -1,9 +1,6 @@
--- Rows of the table, and why there is none.
-use Rattle.std.specs.Prelude.{◌≡◌, ℕ, List, [], ◌∷◌, ◌++◌, map, length, Option, Some, None, IfSome, refl}
-use Rattle.std.proofs.Common.{ap, arith, sym, subst, ◌∙◌, append_assoc, inl, inr}
-use Rattle.ll_path.specs.Path.{Path, path_of_text}
-use Rattle.ll_rules.specs.Layer.{Layer}
-use Rattle.ll_seq.specs.State.{State}
+-- Why there is no table of rights.
+use Rattle.std.specs.Prelude.{◌≡◌, ℕ, List, [], Option, Some, None, IfSome, refl}
+use Rattle.std.proofs.Common.{inl, inr}
 use Rattle.ll_program.specs.Options.{RightsOrder}
 use Rattle.ll_program.specs.Paths.{HasBadWord, IsOfWords}
 use Rattle.ll_program.specs.Policy.{IsSetup, Lacks}
@@ -12,8 +9,7 @@ use Rattle.ll_program.specs.declared.failure.Failure.TheVariants.{CommandLine, P
 use Rattle.ll_program.specs.declared.failure.Failure.TheVariants.{NoMemory}
 use Rattle.ll_session.specs.declared.setup.Setup.{Setup}
 use Rattle.ll_commands.specs.Opening.{FailsSo, IsStopped}
-use Rattle.ll_commands.specs.Rights.{AreRows, LacksTable, paths_told, row_in, table_tree}
-use Rattle.ll_commands.specs.declared.rights.RowStyle.{RowStyle}
+use Rattle.ll_commands.specs.Rights.{LacksTable, table_tree}
 
 pub fails_so : (P Q : Type 0) (f : Failure) → (P → Q) → FailsSo P f → FailsSo Q f
 fails_so P Q CommandLine g p = absurd p
@@ -23,22 +19,6 @@ fails_so P Q File g p = absurd p
 fails_so P Q Output g p = absurd p
 fails_so P Q Socket g p = absurd p
 fails_so P Q NoMemory g p = tt
-
-module _ (s : State) (domain : List Layer) (style : RowStyle) where
-  pub rows_join : (ps qs : List Path) (text rows : List ℕ) → AreRows s domain style ps text
-      → AreRows s domain style qs rows → AreRows s domain style (ps ++ qs) (text ++ rows)
-  rows_join [] qs text rows e more = subst (λ t. AreRows s domain style qs (t ++ rows)) (sym e) more
-  rows_join (p ∷ ps) qs text rows h more = (
-    h.0,
-    h.1 ++ rows,
-    h.2,
-    rows_join ps qs h.1 rows h.3 more,
-    ap (λ t. t ++ rows) h.4 ∙ append_assoc (row_in style p h.0) h.1 rows,
-  )
-
-pub no_words : (words : List (List ℕ)) → [] ≡ map path_of_text words → words ≡ []
-no_words [] e = refl
-no_words (w ∷ ws) e = absurd (cc e)
 
 -- what a reader has left, if it tells it
 pub left : (o : Option (List ℕ)) → (text : List ℕ) × IfSome o (λ told. text ≡ told)
@@ -73,18 +53,3 @@ module _ (order : RightsOrder) (text : List ℕ) where
   by_opening setup Output is fails = absurd fails
   by_opening setup Socket is fails = absurd fails
   by_opening setup NoMemory is fails = tt
-
-pub empty_is : {A : Type 0} (xs : List A) → length xs ≡ 0 → xs ≡ []
-empty_is [] e = refl
-empty_is (x ∷ xs) e = absurd (omega arith)
-
--- which paths are told
-pub told_nodes : (words : List (List ℕ)) (paths : List Path) (setup : Setup) → paths ≡ []
-    → paths ≡ map path_of_text words
-    → paths_told [] setup ≡ paths_told words setup
-told_nodes words paths setup none is = ap (λ ws. paths_told ws setup) (sym (no_words words (sym none ∙ is)))
-
-pub told_words : (words : List (List ℕ)) (paths : List Path) (setup : Setup) → (length paths ≡ 0 → ⊥)
-    → paths ≡ map path_of_text words → paths ≡ paths_told words setup
-told_words [] paths setup some is = absurd (some (ap length is))
-told_words (w ∷ ws) paths setup some is = is

@@ -1,9 +1,6 @@
 -- Layers as JSON. RFC 8259
 use Rattle.std.specs.Prelude.{ℕ, Bool, List, [], ◌∷◌, Option, Some, None, codes, decimal, if◌then◌else◌, unwrap_or}
 use Rattle.std.specs.List.{concat, join_by}
-use Rattle.serde_json.specs.Data.{string}
-use Rattle.serde_json.specs.Written.{compact_text}
-use Rattle.ll_rights.specs.Access.{set_names}
 use Rattle.ll_rights.specs.Kind.{kind_text}
 use Rattle.ll_rights.specs.declared.kind.Kind.{Kind}
 use Rattle.ll_seq.specs.declared.call.Call.{Call}
@@ -14,18 +11,7 @@ use Rattle.ll_policy.specs.declared.profile.Layer.{Layer}
 use Rattle.ll_commands.specs.declared.confinement.Confinement.{Confinement}
 use Rattle.ll_commands.specs.Confinement.{kind_at}
 use Rattle.ll_commands.specs.CProgram.{root_of}
-
--- a string as serde_json writes it
-abbrev pub json_string : List ℕ → List ℕ
-json_string text = compact_text (string text)
-
--- a name without characters that need a backslash
-abbrev pub quoted : List ℕ → List ℕ
-quoted name = concat (codes "\"" ∷ name ∷ codes "\"" ∷ [])
-
--- the names of the rights in a set, in their order
-abbrev pub json_names : ℕ → List ℕ
-json_names set = join_by quoted (codes ", ") (set_names set)
+use Rattle.ll_why.specs.Quoted.{json_names, json_string}
 
 abbrev pub json_kind : Option Kind → List ℕ
 json_kind (Some kind) = kind_text kind

@@ -8,9 +8,7 @@ pub mod Loading
 pub mod Opening
 pub mod Output
 pub mod Rights
-pub mod RightsJson
 pub mod Schedules
 pub mod Serving
-pub mod Table
 pub mod Why
 pub mod Learn

@@ -1,17 +1,9 @@
 -- The rights of a policy's profile, as a table. own
-use Rattle.std.specs.Prelude.{◌≡◌, ◌⊎◌, ⊤, ℕ, Bool, List, [], ◌∷◌, ◌++◌, map, codes, Option, Some, None}
-use Rattle.std.specs.Prelude.{IfSome, Result, Ok, Err, false, option_to_list}
-use Rattle.std.specs.List.{flat_map}
+use Rattle.std.specs.Prelude.{◌≡◌, ◌⊎◌, ⊤, ℕ, Bool, List, [], map, Option, Some, None, IfSome, Result, Ok, Err}
 use Rattle.std.specs.Option.{option_map_or}
 use Rattle.clap.specs.Words.{Text}
 use Rattle.ll_path.specs.Path.{Path, path_of_text}
-use Rattle.ll_path.specs.declared.target.Target.{Target}
-use Rattle.ll_path.specs.declared.target.Target.TheVariants.{Good, Bad}
-use Rattle.ll_rules.specs.Layer.{Layer}
 use Rattle.ll_seq.specs.declared.call.Call.{Call}
-use Rattle.ll_seq.specs.declared.call.Call.TheVariants.{Make, Open, Read, Write, Ftruncate, Close, Truncate, ReadDir}
-use Rattle.ll_seq.specs.declared.call.Call.TheVariants.{Stat, Exec, Unlink, Rmdir, Rename, RenameNoreplace, Exchange}
-use Rattle.ll_seq.specs.declared.call.Call.TheVariants.{Link, Ruleset, Allow, Confine, Spawn, Connect}
 use Rattle.ll_seq.specs.State.{State}
 use Rattle.ll_seq.specs.Step.{client_of}
 use Rattle.ll_program.specs.Options.{RightsOrder, TreeOrder, profile_tree}
@@ -25,14 +17,11 @@ use Rattle.ll_program.specs.declared.failure.Failure.{Failure}
 use Rattle.ll_program.specs.declared.failure.Failure.TheVariants.{CommandLine, Policy, Opening, File, Output, Socket}
 use Rattle.ll_program.specs.declared.failure.Failure.TheVariants.{NoMemory}
 use Rattle.ll_session.specs.declared.setup.Setup.{Setup}
-use Rattle.ll_why.specs.Rights.{AreRightsAt}
-use Rattle.ll_why.specs.declared.rights.RightsAt.{RightsAt}
 use Rattle.ll_commands.specs.Opening.{Opens, IsStopped}
 use Rattle.ll_commands.specs.Output.{FailsToTell}
-use Rattle.ll_commands.specs.RightsJson.{path_json}
-use Rattle.ll_commands.specs.Table.{row_line}
-use Rattle.ll_commands.specs.declared.rights.RowStyle.{RowStyle}
-use Rattle.ll_commands.specs.declared.rights.RowStyle.TheVariants.{Line, Json}
+use Rattle.ll_why.specs.PathRows.{AreRows, paths_or_nodes}
+use Rattle.ll_why.specs.declared.path_rows.RowStyle.{RowStyle}
+use Rattle.ll_why.specs.declared.path_rows.RowStyle.TheVariants.{Line, Json}
 use Rattle.ll_wire.specs.Transcript.{Writes}
 
 abbrev pub style_by : Option AnswerForm → (layers : Bool) → RowStyle
@@ -43,52 +32,12 @@ style_by form layers = Line layers
 abbrev pub style_of : RightsOrder → RowStyle
 style_of order = style_by order.form order.layers
 
-abbrev pub row_in : RowStyle → Path → RightsAt → List ℕ
-row_in (Line layers) path told = row_line path told layers
-row_in Json path told = path_json path told
-
--- a line for each path, in order
-abbrev pub AreRows : State → List Layer → RowStyle → List Path → List ℕ → Type 0
-AreRows s domain style [] text = text ≡ []
-AreRows s domain style (path ∷ paths) text =
-    (told : RightsAt) × (rest : List ℕ) × AreRightsAt s domain path told × AreRows s domain style paths rest
-    × (text ≡ row_in style path told ++ rest)
-
-abbrev pub target_path : Target → Option Path
-target_path (Good path) = Some path
-target_path (Bad word) = None
-
--- the path of the node that the call creates, if any
-abbrev pub made_path : Call → Option Path
-made_path (Make kind target) = target_path target
-made_path (Open mode target) = None
-made_path (Read fd offset count) = None
-made_path (Write fd offset bytes) = None
-made_path (Ftruncate fd size) = None
-made_path (Close fd) = None
-made_path (Truncate target size) = None
-made_path (ReadDir target) = None
-made_path (Stat target) = None
-made_path (Exec target) = None
-made_path (Unlink target) = None
-made_path (Rmdir target) = None
-made_path (Rename old new) = None
-made_path (RenameNoreplace old new) = None
-made_path (Exchange old new) = None
-made_path (Link old new) = None
-made_path (Ruleset rights) = None
-made_path (Allow number target rights) = None
-made_path (Confine number) = None
-made_path Spawn = None
-made_path Connect = None
-
-abbrev pub made_paths : List Call → List Path
-made_paths = flat_map (λ call. option_to_list (made_path call))
+abbrev pub loader_calls : Setup → List Call
+loader_calls setup = option_map_or (λ calls. calls.items) setup.loader []
 
 -- the paths that the words name, or without words those of the policy's nodes
 abbrev pub paths_told : List Text → Setup → List Path
-paths_told [] setup = option_map_or (λ calls. made_paths calls.items) setup.loader []
-paths_told (word ∷ words) setup = map path_of_text (word ∷ words)
+paths_told words setup = paths_or_nodes (map path_of_text words) (loader_calls setup)
 
 -- the tree whose first client is asked about
 abbrev pub table_tree : RightsOrder → TreeOrder
@@ -125,7 +74,3 @@ EndsRights texts order out out' (Ok (Judged verdict)) = ⊥
 EndsRights texts order out out' (Ok (Checked end)) = ⊥
 EndsRights texts order out out' (Err failure) =
     (text : List ℕ) × IfSome (texts (Some order.policy)) (λ told. text ≡ told) × MayFail order text out out' failure
-
--- the text has a line for each path appended
-abbrev pub AddsRows : State → List Layer → RowStyle → List Path → (old new : List ℕ) → Type 0
-AddsRows s domain style paths old new = (rows : List ℕ) × AreRows s domain style paths rows × (new ≡ old ++ rows)

@@ -1,13 +1,12 @@
 -- What `why` prints, for an entry of a history or for a command. own
-use Rattle.std.specs.Prelude.{◌≡◌, ◌⊎◌, ⊤, ℕ, false, List, [], ◌∷◌, ◌++◌, codes, Option, Some, None, Result, Ok, Err}
-use Rattle.std.specs.Prelude.{IfSome, string_bytes}
+use Rattle.std.specs.Prelude.{◌≡◌, ◌⊎◌, ⊤, ℕ, false, List, [], ◌∷◌, Option, Some, None, Result, Ok, Err, IfSome}
+use Rattle.std.specs.Prelude.{string_bytes}
+use Rattle.std.specs.List.{AllZip}
 use Rattle.clap.specs.Words.{Text}
 use Rattle.ll_rights.specs.Map.{has}
 use Rattle.ll_seq.specs.State.{State}
 use Rattle.ll_seq.specs.Step.{step}
 use Rattle.ll_seq.specs.declared.call.Call.{Call}
-use Rattle.ll_seq.specs.declared.reply.Reply.{Reply}
-use Rattle.ll_wire.specs.Grammar.{SpellsCommand, call_tokens, line_of, reply_tokens}
 use Rattle.ll_wire.specs.Pieces.{pieces}
 use Rattle.ll_audit.specs.Saved.{verdict_line}
 use Rattle.ll_audit.specs.declared.verdict.Verdict.TheVariants as verdict
@@ -23,39 +22,39 @@ use Rattle.ll_program.specs.Sources.{named}
 use Rattle.ll_wire.specs.Transcript.{Writes}
 use Rattle.ll_commands.specs.Opening.{IsStopped, Opens}
 use Rattle.ll_commands.specs.Output.{FailsToTell}
+use Rattle.ll_why.specs.CallWhy.{IsCallWhy, IsCommand}
 use Rattle.ll_why.specs.Entries.{IsHistoryWhy}
-use Rattle.ll_why.specs.Explained.{Explains}
-use Rattle.ll_why.specs.Told.{told_text}
-use Rattle.ll_why.specs.declared.explanation.Explanation.{Explanation}
 use Rattle.ll_why.specs.declared.history.HistoryWhy.TheVariants as history
 use Rattle.ll_commands.specs.declared.why.Answer.{Answer}
 use Rattle.ll_commands.specs.declared.why.Answer.TheVariants.{Told, BadLine}
 
--- the command, the tree's reply, and what policy says of it
-abbrev pub command_text : Call → Reply → Explanation → List ℕ
-command_text call reply told =
-    line_of (call_tokens call) ++ line_of (codes "answered" ∷ reply_tokens reply) ++ told_text call told
+abbrev pub IsNoCommand : Text → Type 0
+IsNoCommand word = (call : Call) → IsCommand word call → ⊥
 
--- the text on a call of this client in this state of a tree of this level, with its step's reply
-pub record IsCallWhy (level : ℕ) (s : State) (client : ℕ) (call : Call) (text : List ℕ) : Type 0 where
-  pub told : Explanation
-  pub reply : Reply
-  pub explains : Explains level s client call told
-  pub answered : (fresh : ℕ) × (has s.clients fresh ≡ false) × (reply ≡ (step s client call fresh).0)
-  pub is : text ≡ command_text call reply told
+-- one of the words is none
+abbrev pub HasNoCommand : List Text → Type 0
+HasNoCommand [] = ⊥
+HasNoCommand (word ∷ words) = IsNoCommand word ⊎ HasNoCommand words
 
--- the word is a command's line, without the line feed (10)
-abbrev pub IsCommand : Text → Call → Type 0
-IsCommand word call = SpellsCommand (word ++ 10 ∷ []) 1 call
+-- the client makes these calls in turn, whatever their replies
+abbrev pub Follows : (client : ℕ) → State → List Call → State → Type 0
+Follows client s [] t = t ≡ s
+Follows client s (call ∷ calls) t =
+    (fresh : ℕ) × (has s.clients fresh ≡ false) × Follows client (step s client call fresh).1 calls t
 
--- the text on the command that the word spells, in a new tree by the policy with this text
-pub record IsCommandWhy (tree : TreeOrder) (policy word text : List ℕ) : Type 0 where
+-- the text on the command that the word spells, after those that the words before spell, in a new tree by the policy
+-- with this text
+pub record IsCommandWhy (tree : TreeOrder) (policy : List ℕ) (before : List Text) (word text : List ℕ) : Type 0 where
   pub setup : Setup
   pub client : ℕ
+  pub opened : State
+  pub calls : List Call
   pub state : State
   pub call : Call
   pub is_setup : IsSetup tree policy setup
-  pub opens : Opens setup client state
+  pub opens : Opens setup client opened
+  pub spell : AllZip IsCommand before calls
+  pub follows : Follows client opened calls state
   pub spells : IsCommand word call
   pub is : IsCallWhy setup.rules.abi state client call text
 
@@ -63,16 +62,16 @@ abbrev pub EntryAnswers : ℕ → List ℕ → Answer → Type 0
 EntryAnswers number file (Told text) = IsHistoryWhy (pieces file) number (history.Told text)
 EntryAnswers number file (BadLine line) = IsHistoryWhy (pieces file) number (history.BadLine line)
 
-abbrev pub CommandAnswers : TreeOrder → (word file : List ℕ) → Answer → Type 0
-CommandAnswers tree word file (Told text) = IsCommandWhy tree file word (string_bytes text)
-CommandAnswers tree word file (BadLine line) = ⊥
+abbrev pub CommandAnswers : TreeOrder → (before : List Text) → (word file : List ℕ) → Answer → Type 0
+CommandAnswers tree before word file (Told text) = IsCommandWhy tree file before word (string_bytes text)
+CommandAnswers tree before word file (BadLine line) = ⊥
 
 -- the answer, if the file of the history or the policy has this text
 abbrev pub Answers : ℕ → Option Asked → List ℕ → Answer → Type 0
 Answers nodes None file answer = ⊥
 Answers nodes (Some (of_entry name number)) file answer = EntryAnswers number file answer
-Answers nodes (Some (of_command policy profile word)) file answer =
-    CommandAnswers (profile_tree policy profile nodes) word file answer
+Answers nodes (Some (of_command policy profile before word)) file answer =
+    CommandAnswers (profile_tree policy profile nodes) before word file answer
 
 abbrev pub IsAnswer : WhyOrder → List ℕ → Answer → Type 0
 IsAnswer order file answer = Answers order.nodes (asked_by order) file answer
@@ -106,24 +105,24 @@ EntryFails number file Output = ⊥
 EntryFails number file Socket = ⊥
 EntryFails number file NoMemory = ⊤
 
--- why a command isn't explained: the word spells none; there is no setup; a call that the policy asks for is refused;
--- and as above
-abbrev pub CommandFails : TreeOrder → (word file : List ℕ) → Failure → Type 0
-CommandFails tree word file CommandLine =
-    ((call : Call) → IsCommand word call → ⊥) ⊎ Lacks tree file CommandLine
-CommandFails tree word file (Policy fault) = Lacks tree file (Policy fault)
-CommandFails tree word file Opening = (setup : Setup) × IsSetup tree file setup × IsStopped setup
-CommandFails tree word file File = ⊤
-CommandFails tree word file Output = ⊥
-CommandFails tree word file Socket = ⊥
-CommandFails tree word file NoMemory = ⊤
+-- why a command isn't explained: it, or one before it, spells none; there is no setup; a call that the policy asks for
+-- is refused; and as above
+abbrev pub CommandFails : TreeOrder → (before : List Text) → (word file : List ℕ) → Failure → Type 0
+CommandFails tree before word file CommandLine =
+    (IsNoCommand word ⊎ HasNoCommand before) ⊎ Lacks tree file CommandLine
+CommandFails tree before word file (Policy fault) = Lacks tree file (Policy fault)
+CommandFails tree before word file Opening = (setup : Setup) × IsSetup tree file setup × IsStopped setup
+CommandFails tree before word file File = ⊤
+CommandFails tree before word file Output = ⊥
+CommandFails tree before word file Socket = ⊥
+CommandFails tree before word file NoMemory = ⊤
 
 -- without a question, the words are wrong
 abbrev pub Fails : ℕ → Option Asked → List ℕ → Failure → Type 0
 Fails nodes None file failure = failure ≡ CommandLine
 Fails nodes (Some (of_entry name number)) file failure = EntryFails number file failure
-Fails nodes (Some (of_command policy profile word)) file failure =
-    CommandFails (profile_tree policy profile nodes) word file failure
+Fails nodes (Some (of_command policy profile before word)) file failure =
+    CommandFails (profile_tree policy profile nodes) before word file failure
 
 abbrev pub LacksAnswer : WhyOrder → List ℕ → Failure → Type 0
 LacksAnswer order file failure = Fails order.nodes (asked_by order) file failure
@@ -136,7 +135,7 @@ MayFail order file out out' failure = FailsToTell (IsTold order file) (LacksAnsw
 abbrev pub file_asked : Option Asked → Option (List ℕ)
 file_asked None = None
 file_asked (Some (of_entry history number)) = named history
-file_asked (Some (of_command policy profile word)) = Some policy
+file_asked (Some (of_command policy profile before word)) = Some policy
 
 -- the answer on the file that the words name is written, or the history's first bad line; or it isn't written whole
 abbrev pub EndsWhy : (texts : Option (List ℕ) → Option (List ℕ)) → WhyOrder → (out out' : Option (List ℕ))

@@ -9,11 +9,11 @@ ghost use Rattle.ll_commands.specs.CProgram.{root_of};
 
 use crate::confinement::{Confinement, kind_at};
 use crate::fixed::{HEAD, HELPERS, RESTRICT_SELF, TAIL};
-use crate::text::concat;
 use ll_policy::{Layer, Rule};
 use ll_program::{Denied, ExportOptions};
 use ll_rights::{Access, Kind};
 use ll_seq::Call;
+use ll_why::concat;
 use std::alloc::{AllocError, Global};
 
 fn is_plain(byte: u8) -> bool

@@ -1,29 +1,26 @@
 //! Explains a command in a new tree of a policy.
 
-ghost use Rattle.std.specs.Prelude.{◌≡◌, ◌<◌, ◌-◌, ◌^◌, ◌++◌, ◌∷◌, ◌⊎◌, ◌↔◌, [], ℕ, true, false, IfErr, IfOk, IsTrue};
-ghost use Rattle.std.specs.Prelude.{IfSome, length, string_bytes};
+ghost use Rattle.std.specs.Prelude.{◌≡◌, ◌<◌, ◌≤◌, ◌+◌, ◌-◌, ◌^◌, ◌++◌, ◌∷◌, ◌⊎◌, [], ℕ, true, false, IfErr, IfOk};
+ghost use Rattle.std.specs.Prelude.{IfSome, OnOk, length, map, string_bytes};
+ghost use Rattle.std.specs.List.{AllZip};
 ghost use Rattle.ll_rights.specs.Map.{has};
 ghost use Rattle.ll_seq.specs.History.{is_connect};
 ghost use Rattle.ll_seq.specs.declared.call.Call as calls_of;
 ghost use Rattle.ll_seq.specs.State.{State};
 ghost use Rattle.ll_commands.specs.Opening.{FailsSo, IsStopped, Opens};
-ghost use Rattle.ll_commands.specs.Why.{IsCallWhy, IsCommand, command_text};
+ghost use Rattle.ll_session.specs.Session.{AreOthers};
+ghost use Rattle.ll_commands.specs.Why.{Follows, HasNoCommand};
+ghost use Rattle.ll_why.specs.CallWhy.{IsCallWhy, IsCommand};
 
-use crate::open_tree;
+use crate::{Opened, open_tree};
 use ll_plain::Plain;
 use ll_program::Failure;
-use ll_rights::{Abi, Errno};
-use ll_seq::{Call, Reply};
+use ll_rights::Errno;
+use ll_seq::Call;
 use ll_session::Setup;
-use ll_why::{Explanation, call_line, explain};
-use ll_wire::{read_command, reply_text_behind};
+use ll_why::call_why;
+use ll_wire::read_command;
 use std::alloc::{AllocError, Global};
-
-fn wants_memory(reply: &Reply) -> bool
-    ensures { IsTrue result ↔ (reply.now ≡ Reply.Refused Errno.NoMemory) }
-{
-    matches!(reply, Reply::Refused(Errno::NoMemory))
-}
 
 // Returns the line of a command.
 fn line_of(alloc: Global, word: &str) -> Result<String, AllocError>
@@ -51,46 +48,57 @@ pub(crate) fn call_of(alloc: Global, word: &str) -> Result<Call, Failure>
     }
 }
 
-// Returns the text with the command, the tree's reply, and what policy says of it.
-fn command_text(
-    alloc: Global,
-    call: &Call,
-    reply: &Reply,
-    told: &Explanation,
-) -> Result<String, AllocError>
-    ensures { IfOk result (λ text. string_bytes text ≡ command_text call.now reply.now told.now) }
+// Returns the calls that the words spell. Errors: one spells none, or memory ran out.
+pub(crate) fn calls_of(alloc: Global, words: &[&str]) -> Result<Vec<Call>, Failure>
+    ensures calls { IfOk result (λ calls. AllZip IsCommand (map (λ w. w.now) words.now) calls.items) }
+    ensures bad { IfErr result (λ failure. failure ≡ Failure.CommandLine
+        → HasNoCommand (map (λ w. w.now) words.now)) }
+    ensures failure { IfErr result (λ failure. (failure ≡ Failure.CommandLine) ⊎ (failure ≡ Failure.NoMemory)) }
 {
-    let mut text = call_line(alloc, call)?;
-    let answer = reply_text_behind(alloc, "answered", reply)?;
-    let why = told.text(alloc, call)?;
-    text.push_str(answer.as_str())?;
-    text.push_str(why.as_str())?;
-    Ok(text)
+    let mut calls = Vec::new(alloc);
+    for word in words {
+        let call = match call_of(alloc, word) {
+            Ok(call) => call,
+            Err(failure) => return Err(failure),
+        };
+        if let Err(refused) = calls.push(call) {
+            drop(refused);
+            return Err(Failure::NoMemory);
+        }
+    }
+    Ok(calls)
 }
 
-// Returns the text on the client's call in the tree, which has this level and can't be used afterwards.
-fn call_why(
-    alloc: Global,
-    mut tree: Plain,
-    level: Abi,
-    client: u64,
-    call: &Call,
-) -> Result<String, AllocError>
-    requires caller { has tree.clients client ≡ true }
+// Makes the client's call, whatever its reply. Errors: memory ran out.
+fn make_next(tree: &mut Plain, client: u64, call: &Call) -> Result<(), AllocError>
+    requires caller { has tree.old.clients client ≡ true }
     requires call { is_connect call.now ≡ false }
-    requires next { tree.next < 2 ^ 64 - 1 }
-    ensures { IfOk result (λ text. IsCallWhy level tree client call.now (string_bytes text)) }
+    requires next { tree.old.next < 2 ^ 64 - 1 }
+    ensures follows { OnOk result (Follows client tree.old (call.now ∷ []) tree.new) }
+    ensures there { has tree.new.clients client ≡ true }
+    ensures numbers { tree.new.next ≤ tree.old.next + 1 }
 {
-    let Some(caller) = tree.client(client) else {
-        unreachable!()
-    };
-    let told = explain(alloc, &tree, level, caller, call)?;
     let fresh = tree.free_number();
     let reply = tree.apply(client, call, fresh);
-    if wants_memory(&reply) {
+    if reply.wants_memory() {
         return Err(AllocError);
     }
-    command_text(alloc, call, &reply, &told)
+    Ok(())
+}
+
+// Makes the client's calls in turn, whatever their replies. Errors: memory ran out.
+fn make_in_turn(tree: &mut Plain, client: u64, calls: &[Call]) -> Result<(), AllocError>
+    requires caller { has tree.old.clients client ≡ true }
+    requires calls { AreOthers calls.now }
+    requires next { tree.old.next + length calls.now < 2 ^ 64 - 1 }
+    ensures follows { OnOk result (Follows client tree.old calls.now tree.new) }
+    ensures there { OnOk result (has tree.new.clients client ≡ true) }
+    ensures numbers { OnOk result (tree.new.next ≤ tree.old.next + length calls.now) }
+{
+    for call in calls {
+        make_next(tree, client, call)?;
+    }
+    Ok(())
 }
 
 // Does nothing when it runs. Its contract: no list in memory is longer.
@@ -109,22 +117,33 @@ fn loader_fits(loader: &Option<Vec<Call>>)
     }
 }
 
-/// Returns the text on the call in a new tree with this setup. Errors: a call of the setup is refused, or memory ran
-/// out.
-pub(crate) fn told_of_setup(alloc: Global, setup: &Setup, call: &Call) -> Result<String, Failure>
-    requires { is_connect call.now ≡ false }
-    ensures told { IfOk result (λ text. (client : ℕ) × (s : State) × Opens setup.now client s
-        × IsCallWhy setup.now.rules.abi s client call.now (string_bytes text)) }
+/// Returns the text on the call in a new tree with this setup, after the calls before it. Errors: a call of the setup
+/// is refused, or memory ran out.
+pub(crate) fn told_of_setup(
+    alloc: Global,
+    setup: &Setup,
+    before: &[Call],
+    call: &Call,
+) -> Result<String, Failure>
+    requires before { AreOthers before.now }
+    requires call { is_connect call.now ≡ false }
+    ensures told { IfOk result (λ text. (client : ℕ) × (opened : State) × (s : State) × Opens setup.now client opened
+        × Follows client opened before.now s × IsCallWhy setup.now.rules.abi s client call.now (string_bytes text)) }
     ensures failure { IfErr result (FailsSo (IsStopped setup.now)) }
 {
     let opened = match open_tree(alloc, setup) {
         Ok(opened) => opened,
         Err(failure) => return Err(failure),
     };
-    let client = opened.client;
+    let Opened { mut tree, client } = opened;
     fits(setup.profile.as_slice());
+    fits(before);
     loader_fits(&setup.loader);
-    match call_why(alloc, opened.tree, setup.rules.abi, client, call) {
+    match make_in_turn(&mut tree, client, before) {
+        Ok(()) => {}
+        Err(_) => return Err(Failure::NoMemory),
+    }
+    match call_why(alloc, tree, setup.rules.abi, client, call) {
         Ok(text) => Ok(text),
         Err(_) => Err(Failure::NoMemory),
     }

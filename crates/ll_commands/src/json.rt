@@ -2,28 +2,19 @@
 
 ghost use Rattle.std.specs.Prelude.{◌≡◌, codes, map, IfOk, string_bytes};
 ghost use Rattle.std.specs.List.{join_by};
-ghost use Rattle.ll_rights.specs.Access.{set_names};
 ghost use Rattle.ll_program.specs.Options.{exported_in};
-ghost use Rattle.ll_commands.specs.Json.{json_denied, json_flag, json_head, json_kind, json_layer, json_names};
-ghost use Rattle.ll_commands.specs.Json.{json_options, json_rule, json_string, json_text, quoted};
+ghost use Rattle.ll_commands.specs.Json.{json_denied, json_flag, json_head, json_kind, json_layer};
+ghost use Rattle.ll_commands.specs.Json.{json_options, json_rule, json_text};
+ghost use Rattle.ll_why.specs.Quoted.{json_string};
 
 use crate::c_program::root_of;
 use crate::confinement::{Confinement, kind_at};
-use crate::text::{concat, joined};
 use ll_policy::{Layer, Rule};
 use ll_program::{Denied, ExportOptions};
-use ll_rights::{Abi, Access, Kind, Right};
+use ll_rights::{Abi, Kind};
 use ll_seq::Call;
-use serde_json::Value;
+use ll_why::{concat, joined, json_names, json_string};
 use std::alloc::{AllocError, Global};
-
-/// Returns the text as a JSON string. Errors: memory ran out.
-pub(crate) fn json_string(alloc: Global, told: &str) -> Result<String, AllocError>
-    ensures { IfOk result (λ text. string_bytes text ≡ json_string told.now) }
-{
-    let value = Value::String(String::from_str(alloc, told)?);
-    value.to_string(alloc)
-}
 
 fn strings_of(alloc: Global, told: &[&str]) -> Result<Vec<String>, AllocError>
     ensures { IfOk result (λ texts. map string_bytes texts.items ≡ map json_string (map (λ t. t.now) told.now)) }
@@ -40,27 +31,6 @@ fn json_strings(alloc: Global, told: &[&str]) -> Result<String, AllocError>
 {
     let texts = strings_of(alloc, told)?;
     joined(alloc, ", ", texts.as_slice())
-}
-
-// The quoted names of the rights in the set.
-fn names_of(alloc: Global, set: Access) -> Result<Vec<String>, AllocError>
-    ensures { IfOk result (λ names. map string_bytes names.items ≡ map quoted (set_names set.0)) }
-{
-    let mut names = Vec::new(alloc);
-    for right in Right::ALL {
-        if set.holds(right) {
-            names.push(concat(alloc, &["\"", right.text(), "\""])?)?;
-        }
-    }
-    Ok(names)
-}
-
-/// Returns the quoted names of the set's rights, with commas between. Errors: memory ran out.
-pub(crate) fn json_names(alloc: Global, set: Access) -> Result<String, AllocError>
-    ensures { IfOk result (λ text. string_bytes text ≡ json_names set.0) }
-{
-    let names = names_of(alloc, set)?;
-    joined(alloc, ", ", names.as_slice())
 }
 
 fn json_kind(kind: Option<Kind>) -> &'static str

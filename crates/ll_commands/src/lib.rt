@@ -20,12 +20,9 @@ mod log;
 mod opening;
 mod port;
 mod rights;
-mod rights_json;
 mod room;
 mod schedules;
 mod served;
-mod table;
-mod text;
 mod trouble;
 mod why;
 
@@ -33,17 +30,16 @@ pub use c_program::c_text;
 pub use confinement::{Confinement, Flaw, FlawedProfile, LayerFlaw, RuleFlaw};
 pub use exporting::{export, export_checked, exported, flaw_of};
 pub use json::json_text;
-pub use learn::{Learned, learn_history, tell_learned};
+pub use learn::{learn_history, tell_learned};
+pub use ll_learn::Learned;
 pub use ll_picture::Film;
 pub use log::Log;
 pub use opening::{Opened, open_tree};
 pub use port::{Binds, Listens, Loopback, Missed, Port};
-pub use rights::{RowStyle, rights_table, tell_rights};
-pub use rights_json::path_json;
+pub use rights::{rights_table, tell_rights};
 pub use schedules::{
-    Drawn, draw_in, draw_over, draw_schedule, film_by, perform_over, perform_schedule, schedule,
-    schedule_drawn, setup_by,
+    Drawn, conclude_schedule, draw_in, draw_over, draw_schedule, film_by, perform_over,
+    perform_schedule, schedule, schedule_drawn, setup_by,
 };
 pub use served::serve;
-pub use table::row_text;
 pub use why::{Answer, answer_of, tell_why};

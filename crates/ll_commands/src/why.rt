@@ -1,6 +1,6 @@
 //! Writes explanations for `why`.
 
-ghost use Rattle.std.specs.Prelude.{◌≡◌, ◌≤◌, ◌⊎◌, ℕ, List, IfErr, IfOk, IfSome, OnOk};
+ghost use Rattle.std.specs.Prelude.{◌≡◌, ◌≤◌, ◌⊎◌, ℕ, List, IfErr, IfOk, IfSome, OnOk, map};
 ghost use Rattle.std.specs.Io.KnownBytes.{Appends};
 ghost use Rattle.ll_rights.specs.declared.limits.TheConstants.{TREE_NODES};
 ghost use Rattle.ll_wire.specs.Transcript.{Writes};
@@ -9,7 +9,7 @@ ghost use Rattle.ll_wire.specs.Writing.{AppendsFront};
 ghost use Rattle.ll_commands.specs.Why.{CommandAnswers, CommandFails, EntryAnswers, EntryFails, IsAnswer};
 ghost use Rattle.ll_commands.specs.Why.{IsToldSo, LacksAnswer, MayFail, answer_text, conclusion_of};
 
-use crate::commands::{call_of, told_of_setup};
+use crate::commands::{call_of, calls_of, told_of_setup};
 use ll_audit::Verdict;
 use ll_program::{
     Conclusion, Failure, Question, TreeOptions, WhyOptions, read_text, setup_of, write_text,
@@ -46,18 +46,23 @@ fn answer_of_entry<R: Read>(alloc: Global, file: &mut R, number: u64) -> Result<
     }
 }
 
-// Explains the command that the word spells, by this run's policy.
+// Explains the command that the word spells, after those before it, by this run's policy.
 fn answer_of_command<R: Read>(
     alloc: Global,
     tree: &TreeOptions,
+    before: &[&str],
     word: &str,
     file: &mut R,
 ) -> Result<Answer, Failure>
     ensures told { IfOk result (λ answer. (text : List ℕ) × IfSome (R.remaining file.old) (λ told. text ≡ told)
-        × CommandAnswers (tree_in tree.now) word.now text answer) }
+        × CommandAnswers (tree_in tree.now) (map (λ w. w.now) before.now) word.now text answer) }
     ensures failure { IfErr result (λ failure. (text : List ℕ) × IfSome (R.remaining file.old) (λ told. text ≡ told)
-        × CommandFails (tree_in tree.now) word.now text failure) }
+        × CommandFails (tree_in tree.now) (map (λ w. w.now) before.now) word.now text failure) }
 {
+    let calls = match calls_of(alloc, before) {
+        Ok(calls) => calls,
+        Err(failure) => return Err(failure),
+    };
     let call = match call_of(alloc, word) {
         Ok(call) => call,
         Err(failure) => return Err(failure),
@@ -66,7 +71,7 @@ fn answer_of_command<R: Read>(
         Ok(setup) => setup,
         Err(failure) => return Err(failure),
     };
-    match told_of_setup(alloc, &setup, &call) {
+    match told_of_setup(alloc, &setup, calls.as_slice(), &call) {
         Ok(text) => Ok(Answer::Told(text)),
         Err(failure) => Err(failure),
     }
@@ -87,9 +92,9 @@ pub fn answer_of<R: Read>(
     match options.question() {
         None => Err(Failure::CommandLine),
         Some(Question::Entry(_, number)) => answer_of_entry(alloc, file, number),
-        Some(Question::Command(policy, profile, word)) => {
-            let tree = TreeOptions::of_profile(policy, profile, options.nodes);
-            answer_of_command(alloc, &tree, word, file)
+        Some(Question::Command(asked)) => {
+            let tree = TreeOptions::of_profile(asked.policy, asked.profile, options.nodes);
+            answer_of_command(alloc, &tree, asked.before, asked.command, file)
         }
     }
 }

@@ -1,8 +1,8 @@
 use Rattle.std.proofs.Common.{◌≡◌, codes, ap, ◌∙◌, map, string_bytes, List, String}
 use Rattle.std.specs.declared.alloc.Global.{Global}
 use Rattle.std.proofs.lemmas.Result.{IfOk-weaker}
-use Rattle.ll_commands.specs.Json.{json_string}
-use Rattle.ll_commands.proofs.Growing.{joined_parts}
+use Rattle.ll_why.specs.Quoted.{json_string}
+use Rattle.ll_why.proofs.Growing.{joined_parts}
 use Rattle.ll_commands.proofs.json.json_strings.Goals as goal
 
 pub returns : goal.returns

@@ -1,5 +1,5 @@
 use Rattle.std.proofs.Common.{◌≡◌, ◌++◌, drop, map, string_bytes}
-use Rattle.ll_commands.specs.Json.{json_string}
+use Rattle.ll_why.specs.Quoted.{json_string}
 use Rattle.ll_commands.proofs.json.strings_of.Given as goal
 
 -- what is still to come

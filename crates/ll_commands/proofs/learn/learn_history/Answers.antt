@@ -5,11 +5,11 @@ use Rattle.ll_commands.proofs.Lessons.{by_file, nameless}
 use Rattle.ll_commands.proofs.Rows.{left}
 use Rattle.ll_commands.proofs.learn.learn_history.Goals as goal
 
-pub returns-then-is_none-clause-failure : goal.returns-then-is_none-clause-failure
-returns-then-is_none-clause-failure g c =
+pub returns-in_default-clause-failure : goal.returns-in_default-clause-failure
+returns-in_default-clause-failure g c =
     let t = left (g.R.Read.remaining c.args.file.now) in
     let name = profile_name (learn_in c.args.options.now) in
-    (t.0, t.1, inl (nameless c.profile_name.result name c.profile_name.ensures c.if-is_none.ensures))
+    (t.0, t.1, inl (nameless c.profile_name.result name c.profile_name.ensures c.in_default.is))
 
 pub returns-in-Err-clause-failure : goal.returns-in-Err-clause-failure
 returns-in-Err-clause-failure g c =

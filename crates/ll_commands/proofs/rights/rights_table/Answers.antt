@@ -1,12 +1,13 @@
 use Rattle.std.proofs.Common.{List, ℕ, map, ap, subst, ◌∙◌, string_bytes}
 use Rattle.std.specs.Borrow.{Bor}
-use Rattle.ll_path.specs.Path.{path_of_text}
+use Rattle.ll_path.specs.Path.{Path, path_of_text}
 use Rattle.ll_program.specs.Options.{TreeOrder, rights_in}
 use Rattle.ll_program.specs.Paths.{HasBadWord}
 use Rattle.ll_program.specs.Policy.{IsSetup, Lacks}
 use Rattle.ll_seq.specs.Step.{client_of}
-use Rattle.ll_commands.specs.Rights.{AreRows, paths_told}
-use Rattle.ll_commands.specs.declared.rights.RowStyle.{RowStyle}
+use Rattle.ll_commands.specs.Rights.{loader_calls, paths_told}
+use Rattle.ll_why.specs.PathRows.{AreRows, paths_or_nodes}
+use Rattle.ll_why.specs.declared.path_rows.RowStyle.{RowStyle}
 use Rattle.ll_commands.proofs.Rows.{by_opening, by_setup, by_words, left}
 use Rattle.ll_commands.proofs.rights.rights_table.Goals as goal
 
@@ -56,6 +57,10 @@ returns-in-Ok-rows_told-clause-table g c =
         subst (λ (style : RowStyle). AreRows c.in-Ok-open_tree.opened.tree
             (client_of c.in-Ok-open_tree.opened.tree c.in-Ok-open_tree.opened.client).domain style
             (paths_told order.paths c.in-Ok-setup_of.setup) (string_bytes c.in-Ok-rows_told.text))
-            c.style_of.ensures (c.in-Ok-rows_told.ensures order.paths told),
+            c.style_of.ensures
+            (subst (λ (ps : List Path). AreRows c.in-Ok-open_tree.opened.tree
+            (client_of c.in-Ok-open_tree.opened.tree c.in-Ok-open_tree.opened.client).domain c.style_of.result
+            (paths_or_nodes ps (loader_calls c.in-Ok-setup_of.setup)) (string_bytes c.in-Ok-rows_told.text)) told
+            c.in-Ok-rows_told.ensures),
       ),
     )

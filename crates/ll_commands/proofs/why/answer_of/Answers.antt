@@ -1,4 +1,5 @@
-use Rattle.std.proofs.Common.{Option, Some, ap, sym, subst, refl, inr, ◌∙◌}
+use Rattle.std.proofs.Common.{Bor, Option, Some, ap, map, sym, subst, refl, inr, ◌∙◌}
+use Rattle.clap.specs.Words.{Text}
 use Rattle.std.proofs.lemmas.Result.{IfErr-weaker, IfOk-weaker}
 use Rattle.ll_program.specs.Options.{Asked, TreeOrder, question_of}
 use Rattle.ll_program.specs.declared.why.Question.{Question}
@@ -16,25 +17,29 @@ returns-in-None-clause-failure g c =
 pub returns-in-Some-Command-clause-failure : goal.returns-in-Some-Command-clause-failure
 returns-in-Some-Command-clause-failure g c =
     let nodes = c.args.options.now.nodes in
-    let word = c.in-Some-Command.word.now in
+    let it = c.in-Some-Command.asked in
+    let before = map (λ (w : Bor Text). w.now) it.before.now in
     let asked = sym (ap (λ (q : Question). Some (question_of q)) c.in-Some-Command.field-0-is)
     ∙ c.in-Some-Command.ensures in
     IfErr-weaker c.answer_of_command.result _ _ (λ failure h. (
       h.0,
       h.1,
       subst (λ (a : Option Asked). Fails nodes a h.0 failure) asked
-          (subst (λ (run : TreeOrder). CommandFails run word h.0 failure) c.of_profile-tree.ensures h.2),
+          (subst (λ (run : TreeOrder). CommandFails run before it.command.now h.0 failure)
+          c.of_profile-tree.ensures h.2),
     )) c.answer_of_command.ensures.failure
 
 pub returns-in-Some-Command-clause-told : goal.returns-in-Some-Command-clause-told
 returns-in-Some-Command-clause-told g c =
     let nodes = c.args.options.now.nodes in
-    let word = c.in-Some-Command.word.now in
+    let it = c.in-Some-Command.asked in
+    let before = map (λ (w : Bor Text). w.now) it.before.now in
     let asked = sym (ap (λ (q : Question). Some (question_of q)) c.in-Some-Command.field-0-is)
     ∙ c.in-Some-Command.ensures in
     IfOk-weaker c.answer_of_command.result _ _ (λ answer h. (
       h.0,
       h.1,
       subst (λ (a : Option Asked). Answers nodes a h.0 answer) asked
-          (subst (λ (tree : TreeOrder). CommandAnswers tree word h.0 answer) c.of_profile-tree.ensures h.2),
+          (subst (λ (tree : TreeOrder). CommandAnswers tree before it.command.now h.0 answer)
+          c.of_profile-tree.ensures h.2),
     )) c.answer_of_command.ensures.told

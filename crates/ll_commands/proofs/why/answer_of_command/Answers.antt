@@ -1,3 +1,8 @@
+use Rattle.std.proofs.Common.{List, inl, inr, subst, sym}
+use Rattle.ll_seq.specs.declared.call.Call.{Call}
+use Rattle.ll_session.specs.Session.{AreOthers}
+use Rattle.ll_commands.specs.Why.{Follows}
+use Rattle.ll_commands.proofs.Spelled.{others}
 use Rattle.ll_program.specs.Options.{tree_in}
 use Rattle.ll_commands.proofs.Rows.{left}
 use Rattle.ll_commands.proofs.Failing.{by_opening, by_word}
@@ -8,9 +13,22 @@ returns-in-Err-clause-failure g c =
     let t = left (g.R.Read.remaining c.args.file.now) in (
       t.0,
       t.1,
-      by_word (tree_in c.args.tree.now) c.args.word.now t.0 c.in-Err.failure c.in-Err.ensures.failure
-          c.in-Err.ensures.bad,
+      by_word (tree_in c.args.tree.now) _ c.args.word.now t.0 c.in-Err.failure c.in-Err.ensures.failure
+          (λ is. inr (c.in-Err.ensures.bad is)),
     )
+
+pub returns-in-Err-call_of-clause-failure : goal.returns-in-Err-call_of-clause-failure
+returns-in-Err-call_of-clause-failure g c =
+    let t = left (g.R.Read.remaining c.args.file.now) in (
+      t.0,
+      t.1,
+      by_word (tree_in c.args.tree.now) _ c.args.word.now t.0 c.in-Err-call_of.failure
+          c.in-Err-call_of.ensures.failure (λ is. inl (c.in-Err-call_of.ensures.bad is)),
+    )
+
+pub told_of_setup-requires-clause-before : goal.told_of_setup-requires-clause-before
+told_of_setup-requires-clause-before g c =
+    subst AreOthers (sym c.as_slice.ensures.value) (others _ c.in-Ok.calls.items c.in-Ok.ensures.calls)
 
 pub returns-in-Ok-told_of_setup-clause-told : goal.returns-in-Ok-told_of_setup-clause-told
 returns-in-Ok-told_of_setup-clause-told g c =
@@ -21,12 +39,16 @@ returns-in-Ok-told_of_setup-clause-told g c =
       record {
         setup = c.in-Ok-setup_of.setup;
         client = told.0;
-        state = told.1;
-        call = c.in-Ok.call;
+        opened = told.1;
+        calls = c.in-Ok.calls.items;
+        state = told.2;
+        call = c.in-Ok-call_of.call;
         is_setup = s.2;
-        opens = told.2;
-        spells = c.in-Ok.ensures.call;
-        is = told.3;
+        opens = told.3;
+        spell = c.in-Ok.ensures.calls;
+        follows = subst (λ (l : List Call). Follows told.0 told.1 l told.2) c.as_slice.ensures.value told.4;
+        spells = c.in-Ok-call_of.ensures.call;
+        is = told.5;
       },
     )
 
@@ -35,6 +57,7 @@ returns-clause-failure g c =
     let s = c.in-Ok-setup_of.ensures.setup in (
       s.0,
       s.1,
-      by_opening (tree_in c.args.tree.now) c.args.word.now s.0 c.in-Ok-setup_of.setup c.in-Err-told_of_setup.failure s.2
+      by_opening (tree_in c.args.tree.now) _ c.args.word.now s.0 c.in-Ok-setup_of.setup
+          c.in-Err-told_of_setup.failure s.2
           c.in-Err-told_of_setup.ensures.failure,
     )

@@ -1,9 +1,0 @@
-use Rattle.std.proofs.Common.{◌≡◌, drop}
-use Rattle.ll_commands.specs.Learn.{client_among, connected}
-use Rattle.ll_commands.proofs.Lessons.{later}
-use Rattle.ll_commands.proofs.learn.client_of.Given as goal
-
--- the clients that are left decide
-abbrev pub invariant-loop-entry : goal.invariant-loop-entry
-invariant-loop-entry l =
-    later l.first (connected (drop l.entry-index l.entries)) ≡ client_among (connected l.entries)

@@ -1,9 +1,0 @@
-use Rattle.std.proofs.Common.{take, string_bytes}
-use Rattle.ll_commands.specs.Rights.{AreRows}
-use Rattle.ll_commands.proofs.rights.rows_of_paths.Given as goal
-
--- so far
-abbrev pub invariant-loop-path : goal.invariant-loop-path
-invariant-loop-path l = record {
-  so_far : AreRows l.tree l.domain l.style (take l.path-index l.paths) (string_bytes l.text);
-}

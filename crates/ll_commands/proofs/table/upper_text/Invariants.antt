@@ -1,9 +1,0 @@
-use Rattle.std.proofs.Common.{◌≡◌, take, drop, string_bytes}
-use Rattle.ll_path.specs.Path.{path_text}
-use Rattle.ll_commands.proofs.table.upper_text.Given as goal
-
-abbrev pub invariant-loop-place : goal.invariant-loop-place
-invariant-loop-place l = record {
-  text : string_bytes l.text ≡ path_text (take l.place l.path);
-  names : l.names ≡ drop l.place l.path;
-}
