@@ -32,9 +32,9 @@ _landtree() {
     --nodes | --history | --from | --to | --profile | --port | --workers | --connections | --idle | --room | --client | --name | --never | --most) return ;;
     esac
     case ${COMP_WORDS[1]} in
-    run) options="--nodes --abi --history --policy --profile --save --strict --explain --terse --help" ;;
+    run) options="--nodes --abi --history --policy --profile --save --strict --comments --explain --terse --help" ;;
     audit) options="--explain --terse --help" ;;
-    schedule) options="--nodes --abi --history --picture --from --to --explain --terse --help" ;;
+    schedule) options="--nodes --abi --history --picture --from --to --strict --explain --terse --help" ;;
     rights) options="--policy --profile --nodes --layers --as --explain --terse --help" ;;
     why) options="--policy --profile --nodes --explain --terse --help" ;;
     learn) options="--policy --history --client --name --never --beneath --most --nodes --explain --terse --help" ;;

@@ -2,8 +2,9 @@
 use Rattle.std.specs.Prelude.{◌≡◌, ℕ, Bool, true, false, List, Option, Some, None, Result, Err, refl}
 use Rattle.std.proofs.Common.{inl, inr}
 use Rattle.std.proofs.KnownBytes.{Keeps-refl}
-use Rattle.ll_program.specs.Options.{LearnOrder, Lesson, Order, fits, fits_check, fits_export, fits_rights}
-use Rattle.ll_program.specs.Options.{fits_schedule, fits_serve, fits_why, lessons_by, of_checks, of_history, to_audit}
+use Rattle.ll_program.specs.Options.{LearnOrder, Order, fits, fits_check, fits_export, fits_rights}
+use Rattle.ll_program.specs.Learn.{Lesson, lessons_by, of_checks, of_history}
+use Rattle.ll_program.specs.Options.{fits_schedule, fits_serve, fits_why, to_audit}
 use Rattle.ll_program.specs.Options.{to_check, to_export, to_learn, to_rights, to_run, to_schedule, to_serve, to_why}
 use Rattle.ll_program.specs.declared.conclusion.Conclusion.{Conclusion}
 use Rattle.ll_program.specs.declared.failure.Failure.{Failure}

@@ -29,7 +29,7 @@ module _ (texts : Option (List ℕ) → Option (List ℕ)) (out : Option (List �
   lacks : (nodes : ℕ) (asked : Option Asked) (file : List ℕ) → is_some asked ≡ true → Fails nodes asked file NoMemory
   lacks nodes None file e = absurd (cc e)
   lacks nodes (Some (of_entry history number)) file e = tt
-  lacks nodes (Some (of_command policy profile word)) file e = tt
+  lacks nodes (Some (of_command policy profile before word)) file e = tt
 
   pub no_answer : (order : WhyOrder) → fits_why order ≡ true → EndsWhy texts order out out (Err NoMemory)
   no_answer order fits =

@@ -1,7 +1,8 @@
 -- How the program ends with this order, if the files have these texts. own
 use Rattle.std.specs.Prelude.{◌≡◌, ◌⊎◌, ℕ, Bool, true, false, List, Option, Result, Err}
 use Rattle.ll_program.specs.Options.{Order, fits, fits_check, fits_export, fits_rights, fits_schedule, fits_serve}
-use Rattle.ll_program.specs.Options.{fits_why, is_checked, lessons_by, to_audit, to_check, to_export}
+use Rattle.ll_program.specs.Learn.{lessons_by}
+use Rattle.ll_program.specs.Options.{fits_why, is_checked, to_audit, to_check, to_export}
 use Rattle.ll_program.specs.Options.{to_learn, to_rights, to_run, to_schedule, to_serve, to_why}
 use Rattle.ll_program.specs.declared.conclusion.Conclusion.{Conclusion}
 use Rattle.ll_program.specs.declared.failure.Failure.{Failure}
@@ -29,7 +30,7 @@ Ends texts (to_run order) out out' result =
     EndsFitting (fits order) (EndsRun texts order out out' result) out out' result
 Ends texts (to_audit file) out out' result = EndsAudit (texts (named file)) out out' result
 Ends texts (to_schedule order) out out' result =
-    EndsFitting (fits_schedule order) (EndsSchedule texts order out out' result) out out' result
+    EndsFitting (fits_schedule order) (EndsSchedule (texts (named order.file)) order out out' result) out out' result
 Ends texts (to_rights order) out out' result =
     EndsFitting (fits_rights order) (EndsRights texts order out out' result) out out' result
 Ends texts (to_check order) out out' result =

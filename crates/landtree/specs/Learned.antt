@@ -2,7 +2,8 @@
 use Rattle.std.specs.Prelude.{◌≡◌, ◌⊎◌, ℕ, ◌==◌, ◌&&◌, Bool, true, false, not, nat_le, List, Option, Some, None}
 use Rattle.std.specs.Prelude.{Result, Ok, Err, IfSome}
 use Rattle.std.specs.List.{AllZip, list_all}
-use Rattle.ll_program.specs.Options.{LearnOrder, Lesson, of_checks, of_history}
+use Rattle.ll_program.specs.Options.{LearnOrder}
+use Rattle.ll_program.specs.Learn.{Lesson, of_checks, of_history}
 use Rattle.ll_program.specs.Sources.{named}
 use Rattle.ll_program.specs.declared.checked.Checked.{Checked}
 use Rattle.ll_program.specs.declared.conclusion.Conclusion.{Conclusion}

@@ -16,7 +16,7 @@ ghost use Rattle.ll_commands.specs.Export as exports;
 
 use crate::hints::Hints;
 use crate::misfits::Misfit;
-use ll_check::{CheckInput, NamedText, check};
+use ll_check::{CheckInput, NamedText, SharedRunner, check};
 use ll_commands::{export, export_checked};
 use ll_program::{
     CheckOptions, Checked, Conclusion, ExportOptions, Failure, Late, ReportForm, Sources, named,
@@ -126,7 +126,8 @@ fn check_files<S: Sources + Wait, W: Write>(
         policy: policy.as_slice(),
         files: files.as_slice(),
     };
-    let checked = check(sources, rt.alloc(), &input, out, &mut rt.stderr(), hints);
+    let runner = SharedRunner { rt: sources };
+    let checked = check(&runner, rt.alloc(), &input, out, &mut rt.stderr(), hints);
     if let Err(failure) = &checked {
         hints.of_check(options, failure, policy.as_slice());
     }
@@ -218,7 +219,7 @@ fn check_profile<S: Sources + Wait>(
         files: files.as_slice(),
     };
     check(
-        sources,
+        &SharedRunner { rt: sources },
         rt.alloc(),
         &input,
         &mut rt.stderr(),

@@ -10,7 +10,7 @@ ghost use Rattle.ll_program.specs.Failure.{EndsAudit, FailsAudit};
 ghost use Rattle.ll_program.specs.Policy.{EndsRun, IsRun, MayFail};
 ghost use Rattle.ll_commands.specs.Rights.{EndsRights};
 ghost use Rattle.ll_commands.specs.Why.{EndsWhy, file_asked};
-ghost use Rattle.ll_commands.specs.Schedules.{EndsSchedule, FailsSchedule, RunsSchedule};
+ghost use Rattle.ll_commands.specs.Schedules.{EndsSchedule};
 ghost use Rattle.ll_commands.specs.Serving as serving;
 ghost use Rattle.ll_commands.specs.Serving.{EndsServe, IsDone};
 ghost use Rattle.ll_audit.specs.Saved.{Judges, verdict_line};
@@ -19,9 +19,9 @@ ghost use Rattle.ll_wire.specs.Pieces.{pieces};
 use crate::hints::Hints;
 use crate::misfits::Misfit;
 use ll_audit::Verdict;
-use ll_check::LinesOf;
 use ll_commands::{
-    Binds, Film, Log, film_by, schedule, schedule_drawn, serve, tell_rights, tell_why,
+    Binds, Film, Log, conclude_schedule, film_by, schedule, schedule_drawn, serve, tell_rights,
+    tell_why,
 };
 use ll_program::{
     Clash, Conclusion, Device, Failure, Late, NewFile, Purpose, Question, RightsOptions,
@@ -194,17 +194,15 @@ fn perform_told<R: Read, W: Write>(
     input: &mut R,
     out: &mut W,
     hints: &mut Hints,
-) -> Result<(), Failure>
-    ensures told { OnOk result (RunsSchedule (scheduled_in options.now) (R.remaining input.old)
-        (W.contents out.old) (W.contents out.new)) }
-    ensures failure { IfErr result (FailsSchedule (scheduled_in options.now) (R.remaining input.old)
-        (W.contents out.old) (W.contents out.new)) }
+) -> Result<Conclusion, Failure>
+    ensures { EndsSchedule (R.remaining input.old) (scheduled_in options.now)
+        (W.contents out.old) (W.contents out.new) result }
 {
     let film = film_by(rt.alloc(), options, hints.are_wanted());
     match schedule(rt.alloc(), options, input, out, film) {
-        Ok(film) => {
-            hint_at_steps(&film, hints);
-            Ok(())
+        Ok(made) => {
+            hint_at_steps(&made.witness, hints);
+            conclude_schedule(rt.alloc(), options.file, made.halt)
         }
         Err(failure) => Err(failure),
     }
@@ -218,11 +216,9 @@ fn perform_drawn<R: Read, W: Write>(
     path: &str,
     out: &mut W,
     hints: &mut Hints,
-) -> Result<(), Failure>
-    ensures told { OnOk result (RunsSchedule (scheduled_in options.now) (R.remaining input.old)
-        (W.contents out.old) (W.contents out.new)) }
-    ensures failure { IfErr result (FailsSchedule (scheduled_in options.now) (R.remaining input.old)
-        (W.contents out.old) (W.contents out.new)) }
+) -> Result<Conclusion, Failure>
+    ensures { EndsSchedule (R.remaining input.old) (scheduled_in options.now)
+        (W.contents out.old) (W.contents out.new) result }
 {
     let mut picture = NewFile::new(rt, path, "picture", false);
     let film = film_by(rt.alloc(), options, hints.are_wanted());
@@ -230,7 +226,10 @@ fn perform_drawn<R: Read, W: Write>(
         Ok(drawn) => {
             hints.of_output(&picture);
             hint_at_steps(&drawn.film, hints);
-            drawn.saved
+            match drawn.saved {
+                Ok(()) => conclude_schedule(rt.alloc(), options.file, drawn.halt),
+                Err(failure) => Err(failure),
+            }
         }
         Err(failure) => Err(failure),
     }
@@ -243,11 +242,9 @@ fn perform_input<R: Read, W: Write>(
     input: &mut R,
     out: &mut W,
     hints: &mut Hints,
-) -> Result<(), Failure>
-    ensures told { OnOk result (RunsSchedule (scheduled_in options.now) (R.remaining input.old)
-        (W.contents out.old) (W.contents out.new)) }
-    ensures failure { IfErr result (FailsSchedule (scheduled_in options.now) (R.remaining input.old)
-        (W.contents out.old) (W.contents out.new)) }
+) -> Result<Conclusion, Failure>
+    ensures { EndsSchedule (R.remaining input.old) (scheduled_in options.now)
+        (W.contents out.old) (W.contents out.new) result }
 {
     match options.picture {
         Some(path) => perform_drawn(rt, options, input, path, out, hints),
@@ -262,20 +259,14 @@ fn perform_file<S: Sources, W: Write>(
     options: &ScheduleOptions,
     out: &mut W,
     hints: &mut Hints,
-) -> Result<(), Failure>
-    ensures told { OnOk result (RunsSchedule (scheduled_in options.now)
-        (S.texts sources.now (named (scheduled_in options.now).file)) (W.contents out.old) (W.contents out.new)) }
-    ensures failure { IfErr result (FailsSchedule (scheduled_in options.now)
-        (S.texts sources.now (named (scheduled_in options.now).file)) (W.contents out.old) (W.contents out.new)) }
+) -> Result<Conclusion, Failure>
+    ensures { EndsSchedule (S.texts sources.now (named (scheduled_in options.now).file)) (scheduled_in options.now)
+        (W.contents out.old) (W.contents out.new) result }
 {
     let mut file = Late::keeping(rt.alloc(), sources, named(options.file), hints.are_wanted());
     let ended = perform_input(rt, options, &mut file, out, hints);
     hints.of_input("schedule", &file);
-    if ended.is_ok()
-        && let Some(text) = file.text()
-    {
-        hints.of_bad_lines(LinesOf::Schedule, options.file, text);
-    }
+    hints.of_schedule(options, &ended, &file);
     ended
 }
 
@@ -290,8 +281,8 @@ pub fn schedule_options<S: Sources, W: Write>(
     ensures unfit { fits_schedule (scheduled_in options.now) ≡ false
         → (result ≡ Err Failure.CommandLine) × (W.contents out.new ≡ W.contents out.old) }
     ensures schedule { fits_schedule (scheduled_in options.now) ≡ true
-        → EndsSchedule (S.texts sources.now) (scheduled_in options.now) (W.contents out.old) (W.contents out.new)
-        result }
+        → EndsSchedule (S.texts sources.now (named (scheduled_in options.now).file)) (scheduled_in options.now)
+        (W.contents out.old) (W.contents out.new) result }
 {
     if !options.fit() {
         hints.of_misfit(Misfit::of_schedule(options));
@@ -305,10 +296,7 @@ pub fn schedule_options<S: Sources, W: Write>(
         hints.add(&clash);
         return Err(Failure::File);
     }
-    match perform_file(rt, sources, options, out, hints) {
-        Ok(()) => Ok(Conclusion::Done),
-        Err(failure) => Err(failure),
-    }
+    perform_file(rt, sources, options, out, hints)
 }
 
 // Writes the rights of a policy's profile.
@@ -369,7 +357,7 @@ fn file_asked<'a>(options: &WhyOptions<'a>) -> Option<&'a str>
 {
     match options.question() {
         Some(Question::Entry(history, _)) => named(history),
-        Some(Question::Command(policy, _, _)) => Some(policy),
+        Some(Question::Command(asked)) => Some(asked.policy),
         None => None,
     }
 }

@@ -8,10 +8,10 @@ use crate::given::Given;
 use crate::misfits::Misfit;
 use crate::refusal::refused_text;
 use ll_audit::{Saved, Verdict};
-use ll_check::{Blame, DeniedTest, LinesOf, Notes, explain};
+use ll_check::{Blame, DeniedTest, LinesOf, Notes, ended, explain};
 use ll_commands::flaw_of;
 use ll_policy::{PlacedFault, Policy, policy_faults, read_document, toml_trouble};
-use ll_program::{Failure, Late, NewFile, Sources};
+use ll_program::{Failure, Late, NewFile, Sources, body_of, is_silent};
 use ll_rights::Errno;
 use ll_why::{explain_entry, why_not};
 use ll_wire::{Header, escaped, read_command, read_schedule_line, shown, split_line, write_whole};
@@ -101,10 +101,23 @@ fn is_no_command(alloc: Global, line: &[u8], come: u64) -> bool {
     }
 }
 
+// Reports whether the line of a script with comments is neither silent nor a command. Its line feed may be missing.
+fn is_bad_spoken(alloc: Global, line: &[u8], come: u64) -> bool {
+    let body = body_of(line);
+    if is_silent(body) {
+        return false;
+    }
+    match ended(alloc, body) {
+        Ok(line) => is_no_command(alloc, line.as_slice(), come),
+        Err(_) => false,
+    }
+}
+
 // Reports whether the line spells no command, or no step, if at most so many clients have come.
 fn is_bad(alloc: Global, of: LinesOf, line: &[u8], come: u64) -> bool {
     match of {
         LinesOf::Schedule => is_no_step(alloc, line, come),
+        LinesOf::Commented => is_bad_spoken(alloc, line, come),
         LinesOf::Script | LinesOf::Checks | LinesOf::Word => is_no_command(alloc, line, come),
     }
 }
@@ -426,9 +439,17 @@ impl Hints {
 
     /// Adds where in the script's line with this number, from 1, something else was expected, and what. The line spells
     /// no command.
-    pub fn of_bad_line(&mut self, script: &str, text: &[u8], number: u64) {
+    pub fn of_bad_line(&mut self, of: LinesOf, script: &str, text: &[u8], number: u64) {
         if self.are_missing() {
-            self.of_command(LinesOf::Script, script, text, number as usize);
+            self.of_command(of, script, text, number as usize);
+        }
+    }
+
+    /// Adds where in the schedule's line with this number, from 1, something else was expected, and what. The line
+    /// spells no step.
+    pub fn of_bad_step(&mut self, file: &str, text: &[u8], number: u64) {
+        if self.is_wanted {
+            self.of_command(LinesOf::Schedule, file, text, number as usize);
         }
     }
 

@@ -2,7 +2,8 @@
 
 ghost use Rattle.std.specs.Prelude.{◌≡◌, ℕ, List, IfSome, map};
 ghost use Rattle.std.specs.List.{list_all};
-ghost use Rattle.ll_program.specs.Options.{learn_in, lessons_by};
+ghost use Rattle.ll_program.specs.Options.{learn_in};
+ghost use Rattle.ll_program.specs.Learn.{lessons_by};
 ghost use Rattle.ll_check.specs.Files.{source_of};
 ghost use Rattle.ll_check.specs.Lessons.{EndsLessons};
 ghost use Rattle.ll_commands.specs.Export.{ended_by};
@@ -12,7 +13,7 @@ ghost use Rattle.landtree.specs.Learned.{EndsByChecks, EndsByHistory, EndsLearne
 use crate::checks::{policy_text, texts_of};
 use crate::hints::Hints;
 use crate::misfits::Misfit;
-use ll_check::{LearnInput, Notes, learn_files};
+use ll_check::{LearnInput, Notes, SharedRunner, learn_files};
 use ll_commands::{learn_history, tell_learned};
 use ll_program::{Checked, Conclusion, Failure, Late, LearnOptions, Lessons, Sources, named};
 use std::alloc::Global;
@@ -63,7 +64,7 @@ fn learn_over<R: Wait, W: Write, E: Write, N: Notes>(
     ensures { EndsLessons (learn_in input.now.options.now) input.now.policy.now (map source_of input.now.files.now)
         (W.contents out.old) (W.contents out.new) result }
 {
-    learn_files(rt, alloc, input, out, err, notes)
+    learn_files(&SharedRunner { rt }, alloc, input, out, err, notes)
 }
 
 // Learns from the saved history with this name, over devices of any kind.

@@ -4,8 +4,8 @@ use crate::given::Given;
 use crate::hints::Hints;
 use ll_check::LinesOf;
 use ll_program::{
-    CheckOptions, Conclusion, ExportOptions, Failure, Late, LearnOptions, Question, RightsOptions,
-    RunOptions, ServeOptions, Sources, WhyOptions,
+    CheckOptions, CommandQuestion, Conclusion, ExportOptions, Failure, Late, LearnOptions,
+    Question, RightsOptions, RunOptions, ScheduleOptions, ServeOptions, Sources, WhyOptions,
 };
 use ll_rights::limits::{HISTORY_ENTRIES, TREE_NODES};
 
@@ -18,14 +18,19 @@ impl Hints {
         policy: &Late<'_, S>,
         script: &Late<'_, S>,
     ) {
+        let of = if options.comments {
+            LinesOf::Commented
+        } else {
+            LinesOf::Script
+        };
         if let Some(text) = script.text() {
             match ended {
                 Ok(Conclusion::Stopped(stopped)) => {
                     if let Some(line) = stopped.bad_line {
-                        self.of_bad_line(options.script, text, line);
+                        self.of_bad_line(of, options.script, text, line);
                     }
                 }
-                Ok(_) => self.of_bad_lines(LinesOf::Script, options.script, text),
+                Ok(_) => self.of_bad_lines(of, options.script, text),
                 Err(_) => {}
             }
         }
@@ -42,9 +47,31 @@ impl Hints {
         };
         match ended {
             Err(failure) => self.of_failure(failure, &given),
-            // The script wasn't read: a call of the opening was refused, which is the only reply.
-            Ok(_) if !script.is_open() => self.of_opening(&given),
+            // The script wasn't read: a call of the opening was refused, which is the only reply. (A script with
+            // comments is read first.)
+            Ok(_) if !script.is_open() || options.comments => self.of_opening(&given),
             Ok(_) => {}
+        }
+    }
+
+    /// Adds hints for `schedule`: lines of it spell no step. Of one that a line ended only that line can be meant.
+    pub fn of_schedule<S: Sources>(
+        &mut self,
+        options: &ScheduleOptions,
+        ended: &Result<Conclusion, Failure>,
+        file: &Late<'_, S>,
+    ) {
+        let Some(text) = file.text() else {
+            return;
+        };
+        match ended {
+            Ok(Conclusion::Stopped(stopped)) => {
+                if let Some(line) = stopped.bad_line {
+                    self.of_bad_step(options.file, text, line);
+                }
+            }
+            Ok(_) => self.of_bad_lines(LinesOf::Schedule, options.file, text),
+            Err(_) => {}
         }
     }
 
@@ -111,16 +138,19 @@ impl Hints {
         }
     }
 
-    // Adds hints for `why` of a command: the word spells none, or the policy is the reason.
+    // Adds hints for `why` of a command: a word spells none, or the policy is the reason.
     fn of_command_asked(
         &mut self,
         options: &WhyOptions,
-        command: &str,
+        asked: &CommandQuestion<'_, '_>,
         failure: &Failure,
         text: Option<&[u8]>,
     ) {
         if matches!(failure, Failure::CommandLine) {
-            self.of_word(command);
+            for word in asked.before {
+                self.of_word(word);
+            }
+            self.of_word(asked.command);
         }
         let (nodes, history) = (options.nodes, HISTORY_ENTRIES);
         if let Some(given) = Given::new(options.policy, text, options.profile, nodes, history) {
@@ -145,8 +175,8 @@ impl Hints {
                     self.of_verdict(history, text, *verdict);
                 }
             }
-            (Some(Question::Command(_, _, command)), Err(failure)) => {
-                self.of_command_asked(options, command, failure, file.text());
+            (Some(Question::Command(asked)), Err(failure)) => {
+                self.of_command_asked(options, &asked, failure, file.text());
             }
             _ => {}
         }

@@ -1,13 +1,24 @@
+use Rattle.std.proofs.Common.{◌≡◌, Result, Err, subst}
+use Rattle.std.specs.Prelude.{IfErr}
+use Rattle.ll_program.specs.Failure.{IsOfSaving}
 use Rattle.ll_program.specs.Options.{scheduled_in}
-use Rattle.ll_commands.proofs.Performed.{drawn, undrawn_by}
+use Rattle.ll_program.specs.declared.failure.Failure.{Failure}
+use Rattle.ll_commands.proofs.Performed.{ends_schedule, undrawn}
 use Rattle.landtree.proofs.commands.perform_drawn.Goals as goal
 
-pub returns-in-Ok-clause-told : goal.returns-in-Ok-clause-told
-returns-in-Ok-clause-told g c =
-    drawn (scheduled_in c.args.options.now) (g.W.Write.contents c.args.out.now)
-    (g.W.Write.contents c.schedule_drawn.new.out) _ c.in-Ok.drawn.saved c.in-Ok.ensures.told
+by_saving : {A : Type 0} (r : Result A Failure) (failure : Failure) → r ≡ Err failure → IfErr r IsOfSaving
+    → IsOfSaving failure
+by_saving {A} r failure is why = subst (λ (x : Result A Failure). IfErr x IsOfSaving) is why
 
-pub returns-in-Ok-clause-failure : goal.returns-in-Ok-clause-failure
-returns-in-Ok-clause-failure g c =
-    undrawn_by (scheduled_in c.args.options.now) (g.W.Write.contents c.args.out.now)
-    (g.W.Write.contents c.schedule_drawn.new.out) _ c.in-Ok.drawn.saved c.in-Ok.ensures.told c.in-Ok.ensures.saving
+pub returns-in-Ok-saved : goal.returns-in-Ok-saved
+returns-in-Ok-saved g c =
+    ends_schedule (scheduled_in c.args.options.now) (g.R.Read.remaining c.args.input.now)
+    (g.W.Write.contents c.args.out.now) (g.W.Write.contents c.schedule_drawn.new.out) c.in-Ok.drawn.halt
+    c.conclude_schedule.result c.in-Ok.ensures.told c.conclude_schedule.ensures.end c.conclude_schedule.ensures.failure
+
+pub returns-in-Ok : goal.returns-in-Ok
+returns-in-Ok g c =
+    undrawn (scheduled_in c.args.options.now) (g.R.Read.remaining c.args.input.now)
+    (g.W.Write.contents c.args.out.now) (g.W.Write.contents c.schedule_drawn.new.out) c.in-Ok.drawn.halt
+    c.in-Err-saved.failure c.in-Ok.ensures.told
+    (by_saving c.in-Ok.drawn.saved c.in-Err-saved.failure c.in-Err-saved.is c.in-Ok.ensures.saving)
