@@ -86,10 +86,15 @@ pub record IsByPlan (o : Order) (plan : Plan) (setup : Setup) : Type 0 where
   pub loader : option_map (λ calls. calls.items) setup.loader ≡ Some plan.opening
   pub profile : Some setup.profile.items ≡ profile_of o.profile plan
 
+-- the text is a policy, with this plan
+abbrev pub IsPolicy : (policy : List ℕ) → Plan → Type 0
+IsPolicy policy plan =
+    IsUtf8 policy × (document_faults (parse_document policy) ≡ []) × IsPlanOf (parse_document policy) plan
+
 -- the setup by the policy's text, and without one if that is empty
 abbrev pub IsSetBy : (policy : List ℕ) → Order → Setup → Type 0
 IsSetBy [] o setup = IsBare o setup
-IsSetBy (b ∷ policy) o setup = (plan : Plan) × IsPlanOf (parse_document (b ∷ policy)) plan × IsByPlan o plan setup
+IsSetBy (b ∷ policy) o setup = (plan : Plan) × IsPolicy (b ∷ policy) plan × IsByPlan o plan setup
 
 -- a profile is given only with a policy, and a level only without
 abbrev pub GoTogether : (policy : List ℕ) → Order → Type 0
@@ -212,6 +217,6 @@ EntryAnswers history number status text =
 -- whether a policy is right: without a text if it is
 abbrev pub PolicyAnswers : (policy : List ℕ) → (status : ℕ) → (text : List ℕ) → Type 0
 PolicyAnswers policy status text =
-    ((plan : Plan) × IsPlanOf (parse_document policy) plan × (status ≡ 0) × (text ≡ []))
+    ((plan : Plan) × IsPolicy policy plan × (status ≡ 0) × (text ≡ []))
     ⊎ ((fault : PolicyFault) × IsFaultOf policy fault × (status ≡ status_of (Policy fault)))
     ⊎ (status ≡ status_of NoMemory)

@@ -1,3 +1,6 @@
 pub mod Alone
 pub mod Answers
 pub mod Buffer
+pub mod LearnAnswers
+pub mod Questions
+pub mod CheckAnswers

@@ -2,13 +2,12 @@
 
 ghost use Rattle.std.specs.Prelude.{◌≡◌, ◌⊎◌, ◌≤◌, [], None, Some, IfErr, IfOk, OnOk, true};
 ghost use Rattle.std.specs.Str.{IsUtf8};
-ghost use Rattle.toml.specs.Parse.{parse_document};
-ghost use Rattle.ll_policy.specs.Plan.{IsPlanOf, Plan};
+ghost use Rattle.ll_policy.specs.Plan.{Plan};
 ghost use Rattle.ll_rights.specs.declared.limits.TheConstants.{HISTORY_ENTRIES, TREE_NODES};
 ghost use Rattle.ll_session.specs.Session.{AreOthers};
 ghost use Rattle.ll_wire.specs.Devices.{line_feeds};
-ghost use Rattle.ll_embed.specs.Answers.{Fits, IsBare, IsByPlan, IsFaultOf, IsSetBy, MayFail, level_by, limit_by};
-ghost use Rattle.ll_embed.specs.Answers.{PolicyAnswers, order_in, profile_of};
+ghost use Rattle.ll_embed.specs.Answers.{Fits, IsBare, IsByPlan, IsFaultOf, IsPolicy, IsSetBy, MayFail, PolicyAnswers};
+ghost use Rattle.ll_embed.specs.Answers.{level_by, limit_by, order_in, profile_of};
 ghost use Rattle.ll_policy.specs.declared.fault.PolicyFault.{PolicyFault};
 ghost use Rattle.ll_embed.specs.declared.fault.Fault.{Fault};
 
@@ -42,7 +41,7 @@ fn count_feeds(text: &[u8]) -> usize
 
 // Returns the policy that the text gives. Errors: the text's first fault; memory ran out.
 fn policy_of(alloc: Global, text: &[u8]) -> Result<Policy, Fault>
-    ensures plan { IfOk result (IsPlanOf (parse_document text.now)) }
+    ensures policy { IfOk result (IsPolicy text.now) }
     ensures fault { IfErr result (λ fault. (fault ≡ Fault.NoMemory)
         ⊎ ((of : PolicyFault) × (fault ≡ Fault.Policy of) × IsFaultOf text.now of)) }
 {
@@ -136,7 +135,7 @@ impl Given<'_> {
         requires some { 1 ≤ self.now.nodes }
         requires most { self.now.nodes ≤ TREE_NODES }
         requires most_entries { self.now.history ≤ HISTORY_ENTRIES }
-        ensures setup { IfOk result (λ setup. (plan : Plan) × IsPlanOf (parse_document self.now.policy.now) plan
+        ensures setup { IfOk result (λ setup. (plan : Plan) × IsPolicy self.now.policy.now plan
             × IsByPlan (order_in self.now) plan setup) }
         ensures fault { IfErr result (MayFail (order_in self.now)) }
     {

@@ -2,22 +2,34 @@
 #![tactic(auto)]
 
 mod answer;
+mod ask_fault;
+mod explained;
 mod fault;
+mod file_check;
 mod given;
+mod granted;
 mod history;
+mod learned_profile;
+mod named;
 mod opening;
+mod own_runner;
 mod own_tree;
 mod replies;
 mod run;
 mod strict;
 mod text_run;
 
-ghost use Rattle.std.specs.Prelude.{◌≡◌};
+ghost use Rattle.std.specs.Prelude.{◌≡◌, []};
 ghost use Rattle.ll_embed.specs.Answers.{AuditAnswers, EntryAnswers, HistoryAnswers, PolicyAnswers};
 ghost use Rattle.ll_embed.specs.Answers.{RunAnswers, is_set};
 ghost use Rattle.ll_embed.specs.Buffer.{Gives};
+ghost use Rattle.ll_embed.specs.CheckAnswers.{CheckAnswers};
+ghost use Rattle.ll_embed.specs.LearnAnswers.{LearnAnswers};
+ghost use Rattle.ll_embed.specs.Questions.{RightsAnswers, WhyAnswers};
 
+use crate::file_check::CheckGiven;
 use crate::given::Given;
+use crate::learned_profile::{LearnGiven, learned_answer};
 use std::alloc::Global;
 
 /// Returns the version of these functions, which a caller compares with its header's.
@@ -128,6 +140,40 @@ pub extern "C" fn landtree_audit(
     answer.put(out, len)
 }
 
+/// Learns the least profile from a saved history, as `learn --history` of the program does. The client 0, the number 0
+/// of rules and an empty name stand for the program's defaults. `never` has rights with commas between, `beneath` a
+/// directory in each line; both may be empty.
+#[unsafe(no_mangle)]
+pub extern "C" fn landtree_learn(
+    alloc: Global,
+    client: u64,
+    most: usize,
+    never: &[u8],
+    beneath: &[u8],
+    name: &[u8],
+    history: &[u8],
+    out: &mut [u8],
+    len: &mut usize,
+) -> u32
+    ensures { Gives (LearnAnswers (record {
+      client = client;
+      most = most;
+      never = never.now;
+      beneath = beneath.now;
+      name = name.now;
+    }) history.now) out.old out.new len.new result }
+{
+    let given = LearnGiven {
+        client,
+        most,
+        never,
+        beneath,
+        name,
+    };
+    let answer = learned_answer(alloc, &given, history);
+    answer.put(out, len)
+}
+
 /// Tells why the entry with this number, from 1, of a saved history was answered so, as `why` of the program does.
 #[unsafe(no_mangle)]
 pub extern "C" fn landtree_why_entry(
@@ -140,5 +186,111 @@ pub extern "C" fn landtree_why_entry(
     ensures { Gives (EntryAnswers history.now number) out.old out.new len.new result }
 {
     let answer = history::why(alloc, history, number);
+    answer.put(out, len)
+}
+
+/// Writes the table of the rights that a policy's profile is granted, as the program's `rights` does: a line for each
+/// path that a line of `paths` names, or without any for each node of the policy. The form is 0 for a line with the
+/// rights that all layers grant, 1 for one with a column for each layer too, and 2 for an object of JSON.
+#[unsafe(no_mangle)]
+pub extern "C" fn landtree_rights(
+    alloc: Global,
+    nodes: usize,
+    form: u32,
+    policy: &[u8],
+    profile: &[u8],
+    paths: &[u8],
+    out: &mut [u8],
+    len: &mut usize,
+) -> u32
+    ensures { Gives (RightsAnswers (record {
+      level = 0;
+      nodes = nodes;
+      history = 0;
+      policy = policy.now;
+      profile = profile.now;
+      script = [];
+    }) form paths.now) out.old out.new len.new result }
+{
+    let given = Given {
+        level: 0,
+        nodes,
+        history: 0,
+        policy,
+        profile,
+        script: &[],
+    };
+    let answer = granted::table(alloc, &given, form, paths);
+    answer.put(out, len)
+}
+
+/// Tells why a command of a policy's profile is answered as it is, as the program's `why COMMAND` does. The command
+/// has no line feed.
+#[unsafe(no_mangle)]
+pub extern "C" fn landtree_why(
+    alloc: Global,
+    nodes: usize,
+    policy: &[u8],
+    profile: &[u8],
+    command: &[u8],
+    out: &mut [u8],
+    len: &mut usize,
+) -> u32
+    ensures { Gives (WhyAnswers (record {
+      level = 0;
+      nodes = nodes;
+      history = 0;
+      policy = policy.now;
+      profile = profile.now;
+      script = [];
+    }) command.now) out.old out.new len.new result }
+{
+    let given = Given {
+        level: 0,
+        nodes,
+        history: 0,
+        policy,
+        profile,
+        script: &[],
+    };
+    let answer = explained::why(alloc, &given, command);
+    answer.put(out, len)
+}
+
+/// Checks a file of checks with this name and this text, as `check` of the program does. The form is 0 for the usual
+/// text, 1 for a quiet and 2 for a verbose one, 3 for TAP, 4 for JUnit's XML, and 5 for JSON.
+#[unsafe(no_mangle)]
+pub extern "C" fn landtree_check(
+    alloc: Global,
+    level: u64,
+    nodes: usize,
+    form: u32,
+    policy: &[u8],
+    profile: &[u8],
+    name: &[u8],
+    checks: &[u8],
+    out: &mut [u8],
+    len: &mut usize,
+) -> u32
+    ensures { Gives (CheckAnswers (record {
+      level = level;
+      nodes = nodes;
+      form = form;
+      policy = policy.now;
+      profile = profile.now;
+      name = name.now;
+      checks = checks.now;
+    })) out.old out.new len.new result }
+{
+    let given = CheckGiven {
+        level,
+        nodes,
+        form,
+        policy,
+        profile,
+        name,
+        checks,
+    };
+    let answer = given.answer(alloc);
     answer.put(out, len)
 }

@@ -1,7 +1,7 @@
 //! The tree of a session that nobody shares: without locks.
 
 ghost use Rattle.std.specs.Prelude.{◌≡◌, ◌<◌, ◌≤◌, ◌+◌, ℕ, false, true, length, IfErr, IfOk, IfSome, OnErr, OnOk};
-ghost use Rattle.std.specs.Prelude.{List, None, Some, cond};
+ghost use Rattle.std.specs.Prelude.{◌-◌, ◌^◌, List, None, Some, cond, slice_get};
 ghost use Rattle.ll_rights.specs.Map.{has};
 ghost use Rattle.ll_rights.specs.declared.limits.TheConstants.{HISTORY_ENTRIES};
 ghost use Rattle.ll_plain.specs.Refusal.{is_refusal};
@@ -16,8 +16,8 @@ use crate::strict::{ends_strictly, is_of_layers};
 use ll_plain::Plain;
 use ll_rights::Errno;
 use ll_seq::{Call, Entry, History, Reply};
-use ll_session::Setup;
-use ll_wire::{Line, read_command};
+use ll_session::{ClientCall, Setup};
+use ll_wire::{Line, is_spelled, read_command};
 use std::alloc::{AllocError, Global};
 
 /// A plain tree, its history, and its clients: some that came before the session, and then its own. They are numbered
@@ -37,8 +37,16 @@ pub struct OwnTree {
     ghost most: { history.limit ≤ HISTORY_ENTRIES },
 }
 
+/// A tree, and the number of its session's first client.
+#[derive(Drop)]
+pub struct FirstClient {
+    pub tree: Plain,
+    pub number: u64,
+}
+
 impl OwnTree {
     ghost use Rattle.ll_embed.specs.Alone.{IsUnreadIn, coming_at, opening_at, own};
+    ghost use Rattle.ll_session.specs.CallsRun.{call_line};
     ghost use Rattle.ll_session.specs.Opening.{Comes, Loads, Makes, Opens, Stops, begun, fresh, made};
     ghost use Rattle.ll_session.specs.PartySession.{Called, Connects, joined};
     ghost use Rattle.ll_session.specs.Session.{Answers, AreOthers};
@@ -271,10 +279,44 @@ impl OwnTree {
         }
     }
 
+    /// Makes the call as a line that spells it would. If its client doesn't exist, the reply is `refused 23 BadLine`.
+    /// Errors: memory for a copy of the reply ran out; the call is made.
+    pub fn reply_to(&mut self, made: ClientCall) -> Result<Reply, AllocError>
+        requires { 1 ≤ self.old.clients }
+        ensures answers { IfOk result (λ reply. Answers (own self.old) (call_line made) reply (own self.new)) }
+        ensures clients { self.old.clients ≤ self.new.clients }
+    {
+        let ClientCall { client, call } = made;
+        is_spelled(&call);
+        if client > self.clients {
+            drop(call);
+            return Ok(Reply::Refused(Errno::BadLine));
+        }
+        match self.call(self.before + client, call) {
+            Ok(reply) => Ok(placed(self.clients, reply)),
+            Err(error) => Err(error),
+        }
+    }
+
     /// Returns the history.
     pub fn into_history(self) -> History
         ensures { result ≡ self.history }
     {
         self.history
+    }
+
+    /// Returns the tree, with the session's first client.
+    pub fn into_first(self) -> FirstClient
+        requires { 1 ≤ self.clients }
+        ensures tree { result.tree ≡ (own self).tree }
+        ensures first { slice_get (own self).clients 0 ≡ Some result.number }
+        ensures there { has result.tree.clients result.number ≡ true }
+        ensures next { result.tree.next < 2 ^ 64 - 1 }
+    {
+        let number = self.before + 1;
+        FirstClient {
+            tree: self.plain,
+            number,
+        }
     }
 }

@@ -1,0 +1,320 @@
+//! The least profile for what a saved history did.
+
+ghost use Rattle.std.specs.Prelude.{◌≡◌, ◌⊎◌, ◌<◌, ◌≤◌, ◌∷◌, ◌++◌, [], IfErr, IfOk, OnOk, map, string_bytes, true};
+ghost use Rattle.std.specs.List.{list_all};
+ghost use Rattle.std.specs.Str.{IsUtf8};
+ghost use Rattle.std.specs.Str.Lines.{lines};
+ghost use Rattle.ll_rights.specs.declared.limits.TheConstants.{RULESET_INODES};
+ghost use Rattle.ll_path.specs.Path.{path_of_text};
+ghost use Rattle.ll_policy.specs.Value.{is_name, is_name_byte};
+ghost use Rattle.ll_learn.specs.declared.saved_lesson.Learned.{Learned};
+ghost use Rattle.ll_embed.specs.LearnAnswers.{HasNoPath, IsLearnTold, IsMisasked, IsNoName, IsNoPath, IsWithheld};
+ghost use Rattle.ll_embed.specs.LearnAnswers.{LacksPath, LacksRights, LearnAnswers, client_by, learn_order_in};
+ghost use Rattle.ll_embed.specs.LearnAnswers.{line_at, most_by, name_by, unlearned_status};
+ghost use Rattle.ll_embed.specs.declared.fault.Fault.{Fault};
+
+use crate::answer::Answer;
+use crate::fault::Fault;
+use ll_learn::{Learned, SavedLesson, Unlearned};
+use ll_path::{Path, Word};
+use ll_rights::Access;
+use ll_rights::limits::RULESET_INODES;
+use std::alloc::{AllocError, Global};
+
+/// The profile's name if none is given.
+const NAME: &str = "learned";
+
+/// What is asked of a saved history. The client 0, the number 0 and an empty name aren't given; empty texts withhold no
+/// right and have no directory.
+#[derive(Clone, Copy)]
+pub struct LearnGiven<'a> {
+    pub client: u64,
+    /// The most rules.
+    pub most: usize,
+    /// Rights that no rule may have.
+    pub never: &'a [u8],
+    /// Directories, each in a line.
+    pub beneath: &'a [u8],
+    pub name: &'a [u8],
+}
+
+fn is_name(name: &str) -> bool
+    ensures { result ≡ is_name name.now }
+{
+    !name.is_empty() && name.len() <= 32 && are_name_bytes(name)
+}
+
+fn are_name_bytes(name: &str) -> bool
+    ensures { result ≡ list_all is_name_byte name.now }
+{
+    name.bytes()
+        .all(|b| matches!(b, b'a'..=b'z' | b'0'..=b'9' | b'-'))
+}
+
+// Returns the path that a line spells. Errors: it spells none, or memory ran out.
+fn path_of_line(alloc: Global, line: &str) -> Result<Path, Fault>
+    ensures path { IfOk result (λ path. path ≡ path_of_text line.now) }
+    ensures fault { IfErr result (λ fault. (fault ≡ Fault.NoMemory)
+        ⊎ ((fault ≡ Fault.Misfit) × IsNoPath line.now)) }
+{
+    let Ok(text) = String::from_str(alloc, line) else {
+        return Err(Fault::NoMemory);
+    };
+    let word = match Word::new(text) {
+        Ok(word) => word,
+        Err(text) => {
+            drop(text);
+            return Err(Fault::Misfit);
+        }
+    };
+    match Path::parse(word) {
+        Ok(path) => Ok(path),
+        Err((word, _)) => {
+            drop(word);
+            Err(Fault::Misfit)
+        }
+    }
+}
+
+// Appends the path.
+fn push_path(paths: &mut Vec<Path>, path: Path) -> Result<(), Fault>
+    ensures ok { OnOk result (paths.new.items ≡ paths.old.items ++ path ∷ []) }
+    ensures fault { IfErr result (λ fault. fault ≡ Fault.NoMemory) }
+{
+    match paths.push(path) {
+        Ok(()) => Ok(()),
+        Err(refused) => {
+            drop(refused);
+            Err(Fault::NoMemory)
+        }
+    }
+}
+
+// Returns the paths that the lines spell, in order. Errors: a line spells none, or memory ran out.
+fn paths_of_lines(alloc: Global, lines: &[&str]) -> Result<Vec<Path>, Fault>
+    ensures paths { IfOk result (λ paths. paths.items ≡ map path_of_text (map (λ l. l.now) lines.now)) }
+    ensures fault { IfErr result (λ fault. (fault ≡ Fault.NoMemory)
+        ⊎ ((fault ≡ Fault.Misfit) × HasNoPath (map (λ l. l.now) lines.now))) }
+{
+    let mut paths = Vec::new(alloc);
+    for line in lines {
+        let path = match path_of_line(alloc, line) {
+            Ok(path) => path,
+            Err(fault) => return Err(fault),
+        };
+        match push_path(&mut paths, path) {
+            Ok(()) => {}
+            Err(fault) => return Err(fault),
+        }
+    }
+    Ok(paths)
+}
+
+// Returns the lines of the text.
+fn lines_of(alloc: Global, text: &str) -> Result<Vec<&str>, AllocError>
+    ensures { IfOk result (λ told. map (λ l. l.now) told.items ≡ lines text.now) }
+{
+    text.lines().collect(alloc)
+}
+
+// Returns the line on what is wrong with a history, in this line of it or as a whole.
+fn line_at(alloc: Global, line: Option<usize>, words: &str) -> Result<String, AllocError>
+    ensures { IfOk result (λ text. string_bytes text ≡ line_at line words.now) }
+{
+    let Some(line) = line else {
+        let mut text = String::from_str(alloc, words)?;
+        text.push_str("\n")?;
+        return Ok(text);
+    };
+    let mut text = line.to_string(alloc)?;
+    text.push_str(": ")?;
+    text.push_str(words)?;
+    text.push_str("\n")?;
+    Ok(text)
+}
+
+// Returns the rights that the text spells; none, if it is empty. Errors: it spells no rights.
+fn rights_of(text: &[u8]) -> Result<Access, Fault>
+    ensures rights { IfOk result (IsWithheld text.now) }
+    ensures fault { IfErr result (λ fault. (fault ≡ Fault.Misfit) × LacksRights text.now) }
+{
+    if text.is_empty() {
+        return Ok(Access(0));
+    }
+    let Ok(text) = str::from_utf8(text) else {
+        return Err(Fault::Misfit);
+    };
+    match Access::parse(text) {
+        Some(rights) => Ok(rights),
+        None => Err(Fault::Misfit),
+    }
+}
+
+// Returns the directories of the text's lines. Errors: a line spells no path, or memory ran out.
+fn directories_of(alloc: Global, text: &[u8]) -> Result<Vec<Path>, Fault>
+    ensures paths { IfOk result (λ paths. paths.items ≡ map path_of_text (lines text.now)) }
+    ensures fault { IfErr result (λ fault. (fault ≡ Fault.NoMemory)
+        ⊎ ((fault ≡ Fault.Misfit) × LacksPath text.now)) }
+{
+    let Ok(text) = str::from_utf8(text) else {
+        return Err(Fault::Misfit);
+    };
+    let Ok(lines) = lines_of(alloc, text) else {
+        return Err(Fault::NoMemory);
+    };
+    paths_of_lines(alloc, lines.as_slice())
+}
+
+// Returns the given name, or else the default. Errors: the text isn't UTF-8.
+fn name_told(text: &[u8]) -> Result<&str, Fault>
+    ensures name { IfOk result (λ name. name.now ≡ name_by text.now) }
+    ensures fault { IfErr result (λ fault. (fault ≡ Fault.Misfit) × (IsUtf8 text.now → ⊥)) }
+{
+    if text.is_empty() {
+        return Ok(NAME);
+    }
+    match str::from_utf8(text) {
+        Ok(name) => Ok(name),
+        Err(_) => Err(Fault::Misfit),
+    }
+}
+
+// Returns the profile's name. Errors: the text is no valid name.
+fn name_of(text: &[u8]) -> Result<&str, Fault>
+    ensures name { IfOk result (λ name. name.now ≡ name_by text.now) }
+    ensures valid { IfOk result (λ name. is_name name.now ≡ true) }
+    ensures fault { IfErr result (λ fault. (fault ≡ Fault.Misfit) × IsNoName text.now) }
+{
+    let name = name_told(text)?;
+    if is_name(name) {
+        Ok(name)
+    } else {
+        Err(Fault::Misfit)
+    }
+}
+
+// Returns the answer on what is wrong with a history, in this line of it or as a whole.
+fn answer_at(
+    alloc: Global,
+    status: u32,
+    line: Option<usize>,
+    words: &str,
+) -> Result<Answer, AllocError>
+    ensures status { IfOk result (λ answer. answer.status ≡ status) }
+    ensures text { IfOk result (λ answer. answer.text.items ≡ line_at line words.now) }
+{
+    let text = line_at(alloc, line, words)?;
+    Ok(Answer {
+        status,
+        text: text.into_bytes(),
+    })
+}
+
+fn status_of_fault(fault: Unlearned) -> u32
+    ensures { result ≡ unlearned_status fault }
+{
+    match fault {
+        Unlearned::NoNode(_) => 2,
+        _ => 3,
+    }
+}
+
+// Returns the answer on why nothing is learned.
+fn answer_on(alloc: Global, fault: Unlearned) -> Result<Answer, AllocError>
+    ensures { IfOk result (λ answer. IsLearnTold (Learned.Nothing fault) answer.status answer.text.items) }
+{
+    let words = fault.text(alloc)?;
+    answer_at(alloc, status_of_fault(fault), fault.line(), words.as_str())
+}
+
+// Returns the answer on a profile that would have so many rules.
+fn many_answer(alloc: Global, rules: usize, most: usize) -> Result<Answer, AllocError>
+    ensures { IfOk result (λ answer. answer.status ≡ 2) }
+{
+    let text = format!(in alloc; "{rules} rules, {most} may be\n")?;
+    Ok(Answer {
+        status: 2,
+        text: text.into_bytes(),
+    })
+}
+
+// Returns the answer that tells what is learned.
+fn answer_of(alloc: Global, learned: Learned, most: usize) -> Result<Answer, AllocError>
+    ensures { IfOk result (λ answer. IsLearnTold learned answer.status answer.text.items) }
+{
+    match learned {
+        Learned::Profile(text) => Ok(Answer {
+            status: 0,
+            text: text.into_bytes(),
+        }),
+        Learned::BadLine(line) => answer_at(alloc, 3, Some(line), "bad line"),
+        Learned::Nothing(fault) => answer_on(alloc, fault),
+        Learned::Many(rules) => many_answer(alloc, rules, most),
+    }
+}
+
+impl LearnGiven<'_> {
+    // Returns the client, if it is given.
+    fn client(&self) -> Option<u64>
+        ensures { result ≡ client_by self.now.client }
+    {
+        if self.client == 0 {
+            None
+        } else {
+            Some(self.client)
+        }
+    }
+
+    // Returns the most rules. Errors: no ruleset takes so many.
+    fn most(&self) -> Result<usize, Fault>
+        ensures most { IfOk result (λ most. most ≡ most_by self.now.most) }
+        ensures few { OnOk result (self.now.most ≤ RULESET_INODES) }
+        ensures fault { IfErr result (λ fault. (fault ≡ Fault.Misfit) × (RULESET_INODES < self.now.most)) }
+    {
+        if self.most > RULESET_INODES {
+            return Err(Fault::Misfit);
+        }
+        if self.most == 0 {
+            Ok(RULESET_INODES)
+        } else {
+            Ok(self.most)
+        }
+    }
+
+    // Returns what the history teaches. Errors: what is asked is wrong, or memory ran out.
+    fn answer(&self, alloc: Global, history: &[u8]) -> Result<Answer, Fault>
+        ensures told { IfOk result (λ answer. LearnAnswers (learn_order_in self.now) history.now answer.status
+            answer.text.items) }
+        ensures fault { IfErr result (λ fault. (fault ≡ Fault.NoMemory)
+            ⊎ ((fault ≡ Fault.Misfit) × IsMisasked (learn_order_in self.now))) }
+    {
+        let most = self.most()?;
+        let never = rights_of(self.never)?;
+        let name = name_of(self.name)?;
+        let beneath = directories_of(alloc, self.beneath)?;
+        let lesson = SavedLesson {
+            client: self.client(),
+            never,
+            beneath: beneath.as_slice(),
+            most,
+            name,
+        };
+        let Ok(learned) = lesson.learned(alloc, history) else {
+            return Err(Fault::NoMemory);
+        };
+        match answer_of(alloc, learned, most) {
+            Ok(answer) => Ok(answer),
+            Err(_) => Err(Fault::NoMemory),
+        }
+    }
+}
+
+/// Returns what the saved history teaches.
+pub fn learned_answer(alloc: Global, given: &LearnGiven<'_>, history: &[u8]) -> Answer
+    ensures { LearnAnswers (learn_order_in given.now) history.now result.status result.text.items }
+{
+    match given.answer(alloc, history) {
+        Ok(answer) => answer,
+        Err(fault) => Answer::of_fault(alloc, fault, &[]),
+    }
+}
