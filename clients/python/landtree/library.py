@@ -9,19 +9,31 @@ from __future__ import annotations
 import ctypes
 import os
 from dataclasses import dataclass
-from typing import Any, Callable, List, Union
+from typing import Any, Callable, Iterable, List, Tuple, Union
 
+from .commands import LearnOptions
 from .errors import LandtreeError
+from .values import Rights
 
 VERSION = 1
 ENDED, TOO_SHORT = 3, 5
 FIRST_ROOM = 1 << 16
+
+# The forms of a report on checks and of a table of rights, by their numbers.
+REPORT_FORMS = ("usual", "quiet", "verbose", "tap", "junit", "json")
+TABLE_FORMS = ("usual", "layers", "json")
 
 Text = Union[str, bytes]
 
 
 def encoded(text: Text) -> bytes:
     return text.encode() if isinstance(text, str) else text
+
+
+def numbered(form: str, forms: Tuple[str, ...]) -> ctypes.c_uint32:
+    if form not in forms:
+        raise ValueError(f"the form is one of {', '.join(forms)}, and not {form}")
+    return ctypes.c_uint32(forms.index(form))
 
 
 @dataclass(frozen=True)
@@ -47,7 +59,8 @@ class Setup:
 
 @dataclass(frozen=True)
 class Answer:
-    """An answer, and whether it tells of an end before the script's, or of an illegal history."""
+    """An answer, and whether it tells of an end before the script's, of a history that is illegal or teaches nothing,
+    or of a check that doesn't pass."""
 
     text: bytes
     is_ended: bool
@@ -86,9 +99,43 @@ class Library:
         """Judges a saved history."""
         return self._ask(self._library.landtree_audit, [], [encoded(history)])
 
+    def learn(self, history: Text, options: LearnOptions = LearnOptions(), client: int = 0) -> Answer:
+        """Learns the least profile for what a client did in a saved history: by default the second that connects, or
+        the only one. Where nothing is learned, the answer has one line on why."""
+        never, beneath = Rights.of(options.never), "\n".join(options.beneath)
+        texts = [encoded(it) for it in (str(never) if never else "", beneath, options.name, history)]
+        numbers = [ctypes.c_uint64(client), ctypes.c_size_t(options.most or 0)]
+        return self._ask(self._library.landtree_learn, numbers, texts)
+
     def why_entry(self, history: Text, number: int) -> Answer:
         """Tells why the entry with this number, from 1, of a saved history was answered so."""
         return self._ask(self._library.landtree_why_entry, [ctypes.c_size_t(number)], [encoded(history)])
+
+    def why(self, policy: Text, profile: str, command: str, nodes: int = 4096) -> Answer:
+        """Tells why the profile's command is answered as it is."""
+        texts = [encoded(it) for it in (policy, profile, command)]
+        return self._ask(self._library.landtree_why, [ctypes.c_size_t(nodes)], texts)
+
+    def rights(
+        self, policy: Text, profile: str, paths: Iterable[Any] = (), form: str = "usual", nodes: int = 4096
+    ) -> Answer:
+        """Tells which rights the profile is granted: a line for each path, or without any for each node of the policy.
+
+        It has the rights that all layers grant; with the form "layers" a column for each layer too; with "json" it is
+        an object of JSON.
+        """
+        words = [os.fspath(path) for path in paths]
+        if any("\n" in word for word in words):
+            raise ValueError("a path has a line feed")
+        numbers = [ctypes.c_size_t(nodes), numbered(form, TABLE_FORMS)]
+        lines = "".join(f"{word}\n" for word in words)
+        return self._ask(self._library.landtree_rights, numbers, [encoded(it) for it in (policy, profile, lines)])
+
+    def check(self, checks: Text, setup: Setup = Setup(), name: str = "checks", form: str = "usual") -> Answer:
+        """Checks the file of checks with this name and this text. The setup's `history` isn't used."""
+        numbers = [*setup.numbers()[:2], numbered(form, REPORT_FORMS)]
+        texts = [encoded(it) for it in (setup.policy, setup.profile, name, checks)]
+        return self._ask(self._library.landtree_check, numbers, texts)
 
     def _ask(self, call: Callable[..., int], numbers: List[Any], texts: List[bytes]) -> Answer:
         lent = [it for text in texts for it in (ctypes.c_char_p(text), ctypes.c_size_t(len(text)))]

@@ -23,9 +23,28 @@ mod ffi {
         pub fn landtree_audit(
             history: *const u8, history_length: usize, out: *mut u8, capacity: usize, length: *mut usize,
         ) -> u32;
+        pub fn landtree_learn(
+            client: u64, most: usize, never: *const u8, never_length: usize, beneath: *const u8,
+            beneath_length: usize, name: *const u8, name_length: usize, history: *const u8, history_length: usize,
+            out: *mut u8, capacity: usize, length: *mut usize,
+        ) -> u32;
         pub fn landtree_why_entry(
             number: usize, history: *const u8, history_length: usize, out: *mut u8, capacity: usize,
             length: *mut usize,
+        ) -> u32;
+        pub fn landtree_why(
+            nodes: usize, policy: *const u8, policy_length: usize, profile: *const u8, profile_length: usize,
+            command: *const u8, command_length: usize, out: *mut u8, capacity: usize, length: *mut usize,
+        ) -> u32;
+        pub fn landtree_rights(
+            nodes: usize, form: u32, policy: *const u8, policy_length: usize, profile: *const u8,
+            profile_length: usize, paths: *const u8, paths_length: usize, out: *mut u8, capacity: usize,
+            length: *mut usize,
+        ) -> u32;
+        pub fn landtree_check(
+            level: u64, nodes: usize, form: u32, policy: *const u8, policy_length: usize, profile: *const u8,
+            profile_length: usize, name: *const u8, name_length: usize, checks: *const u8, checks_length: usize,
+            out: *mut u8, capacity: usize, length: *mut usize,
         ) -> u32;
     }
 }
@@ -36,7 +55,8 @@ pub const VERSION: u32 = 1;
 /// The status of an answer that the buffer has no room for.
 const TOO_SHORT: u32 = 5;
 
-/// An answer: a text, and whether it tells of an end before the script's, or of an illegal history.
+/// An answer: a text, and whether it tells of an end before the script's, of a history that is illegal or teaches
+/// nothing, or of a check that doesn't pass.
 #[derive(Clone, Debug, PartialEq, Eq)]
 pub struct Answer {
     pub text: Vec<u8>,
@@ -73,6 +93,64 @@ impl Default for Setup<'_> {
     fn default() -> Self {
         Setup { level: 0, nodes: 4096, history: 0, policy: b"", profile: "" }
     }
+}
+
+/// What is learned from a saved history. The client 0 is the second that connects, or the only one; of 0 rules it is
+/// 256 that a profile may have; an empty name stands for `learned`.
+#[derive(Clone, Copy, Debug, Default)]
+pub struct Lesson<'a> {
+    pub client: u64,
+    /// The most rules.
+    pub most: usize,
+    /// Rights that no rule may grant, with commas between.
+    pub never: &'a str,
+    /// Directories whose rules grant what is needed below them.
+    pub beneath: &'a [&'a str],
+    /// The profile's name.
+    pub name: &'a str,
+}
+
+/// A policy, one of its profiles, and how many nodes the tree has room for.
+#[derive(Clone, Copy, Debug)]
+pub struct Asked<'a> {
+    pub policy: &'a [u8],
+    pub profile: &'a str,
+    pub nodes: usize,
+}
+
+impl<'a> Asked<'a> {
+    /// Returns the profile of the policy, in a tree with the most nodes.
+    pub fn new(policy: &'a [u8], profile: &'a str) -> Self {
+        Asked { policy, profile, nodes: 4096 }
+    }
+}
+
+/// The form of a table of rights: what is written of a path.
+#[derive(Clone, Copy, Debug, PartialEq, Eq)]
+pub enum TableForm {
+    /// A line with the rights that all layers grant.
+    Usual = 0,
+    /// And with a column for each layer.
+    Layers = 1,
+    /// An object of JSON on a line, with all layers.
+    Json = 2,
+}
+
+/// The form of a report on checks.
+#[derive(Clone, Copy, Debug, PartialEq, Eq)]
+pub enum ReportForm {
+    /// Lines of text: the tests that fail, and the sum.
+    Usual = 0,
+    /// The sum alone.
+    Quiet = 1,
+    /// All tests, and the sum.
+    Verbose = 2,
+    /// TAP, version 14.
+    Tap = 3,
+    /// JUnit's XML.
+    Junit = 4,
+    /// An object of JSON for each test, and one with the sums.
+    Json = 5,
 }
 
 // Calls with a buffer until that has room for the answer.
@@ -140,10 +218,65 @@ pub fn audit(history: &[u8]) -> Result<Answer, Fault> {
     })
 }
 
+/// Learns the least profile for what a client did in a saved history. Where nothing is learned, the answer has one line
+/// on why.
+pub fn learn(lesson: Lesson<'_>, history: &[u8]) -> Result<Answer, Fault> {
+    let Lesson { client, most, never, beneath, name } = lesson;
+    let beneath = beneath.join("\n");
+    // SAFETY: as above.
+    ask(|out, capacity, length| unsafe {
+        ffi::landtree_learn(
+            client, most, never.as_ptr(), never.len(), beneath.as_ptr(), beneath.len(), name.as_ptr(), name.len(),
+            history.as_ptr(), history.len(), out, capacity, length,
+        )
+    })
+}
+
 /// Tells why the entry with this number, from 1, of a saved history was answered so.
 pub fn why_entry(history: &[u8], number: usize) -> Result<Answer, Fault> {
     // SAFETY: as above.
     ask(|out, capacity, length| unsafe {
         ffi::landtree_why_entry(number, history.as_ptr(), history.len(), out, capacity, length)
+    })
+}
+
+/// Tells why the profile's command is answered as it is. The command has no line feed.
+pub fn why(asked: Asked<'_>, command: &str) -> Result<Answer, Fault> {
+    let Asked { policy, profile, nodes } = asked;
+    // SAFETY: as above.
+    ask(|out, capacity, length| unsafe {
+        ffi::landtree_why(
+            nodes, policy.as_ptr(), policy.len(), profile.as_ptr(), profile.len(), command.as_ptr(), command.len(),
+            out, capacity, length,
+        )
+    })
+}
+
+/// Tells which rights the profile is granted: a line for each path, or without paths for each node of the policy.
+pub fn rights(asked: Asked<'_>, form: TableForm, paths: &[&str]) -> Result<Answer, Fault> {
+    let Asked { policy, profile, nodes } = asked;
+    if paths.iter().any(|path| path.contains('\n')) {
+        return Err(Fault { status: 2, words: "landtree: not a path\n".into() });
+    }
+    let lines: String = paths.iter().flat_map(|path| [*path, "\n"]).collect();
+    // SAFETY: as above.
+    ask(|out, capacity, length| unsafe {
+        ffi::landtree_rights(
+            nodes, form as u32, policy.as_ptr(), policy.len(), profile.as_ptr(), profile.len(), lines.as_ptr(),
+            lines.len(), out, capacity, length,
+        )
+    })
+}
+
+/// Checks the file of checks with this name and this text, each section in a tree of its own. The setup's history isn't
+/// used: its room is what the tests need.
+pub fn check(setup: Setup<'_>, name: &str, checks: &[u8], form: ReportForm) -> Result<Answer, Fault> {
+    let Setup { level, nodes, policy, profile, .. } = setup;
+    // SAFETY: as above.
+    ask(|out, capacity, length| unsafe {
+        ffi::landtree_check(
+            level, nodes, form as u32, policy.as_ptr(), policy.len(), profile.as_ptr(), profile.len(), name.as_ptr(),
+            name.len(), checks.as_ptr(), checks.len(), out, capacity, length,
+        )
     })
 }
