@@ -1,8 +1,5 @@
 // The examples to choose from: those of examples/.
-export const EXAMPLES = [
-  {
-    name: 'a build service',
-    policy: `# A build service's tree: its clients read /src, write in /build, and reach nothing else.
+const BUILD_SERVICE = `# A build service's tree: its clients read /src, write in /build, and reach nothing else.
 version = 2
 abi = 3
 
@@ -38,7 +35,12 @@ rights = "read_file,read_dir"
 [[profile.build.layer.rule]]
 path = "/build"
 rights = "execute,write_file,read_file,read_dir,remove_dir,remove_file,make_dir,make_reg,truncate"
-`,
+`;
+
+export const EXAMPLES = [
+  {
+    name: 'a build service',
+    policy: BUILD_SERVICE,
     profile: 'build',
     script: `list /src
 open r /src/main.c
@@ -101,6 +103,46 @@ open r /log
 open w /log
 allow 1 /log write_file
 open w /log
+`,
+  },
+  {
+    name: 'checks of the build service',
+    kind: 'checks',
+    policy: BUILD_SERVICE,
+    profile: 'build',
+    script: `# What a step of the build service may and may not do: the profile build of build-service.toml.
+
+# It reads the sources.
+list /src = names main.c
+open r /src/main.c = fd 0
+read 0 0 64 = data 6d61696e28297b7d0a
+close 0
+
+# It changes nothing there, and runs nothing.
+open w /src/main.c = denied EACCES layer 1 write_file at
+truncate /src/main.c 0 = denied EACCES layer 1 truncate at
+unlink /src/main.c = denied EACCES layer 1 remove_file at
+make reg /src/main.o = denied EACCES ..
+exec /src/main.c = denied EACCES layer 1 execute ..
+
+# It builds beneath /build.
+open wc /build/main.o = fd ..
+write 0 0 7f454c46 = wrote 4
+rename /build/main.o /build/main
+exec /build/main
+make fifo /build/pipe = denied EACCES layer 1 make_fifo at
+
+# Nothing goes out or comes in under another name.
+rename /build/main /src/main = denied EACCES layer 1 make_reg new
+link /keys/deploy /build/deploy = denied EXDEV layer 1 refer old
+
+# The key stays closed, and only its name and its size are told.
+open r /keys/deploy = denied EACCES layer 1 read_file at
+stat /keys/deploy = stat 6 reg 6 1
+
+# Whom it spawns is under the same layer.
+spawn = client 2
+@2 open r /keys/deploy = denied ..
 `,
   },
 ];

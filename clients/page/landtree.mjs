@@ -1,8 +1,15 @@
 // Landtree in a page or in node: texts in, a text out. In node it runs commands too:
 //
 //     node clients/page/landtree.mjs run SCRIPT [--policy FILE --profile NAME] [--strict]
+//     node clients/page/landtree.mjs check FILE [--policy FILE --profile NAME] [--quiet | --verbose | --as FORM]
 //     node clients/page/landtree.mjs audit HISTORY
 //     node clients/page/landtree.mjs why HISTORY NUMBER
+//     node clients/page/landtree.mjs why COMMAND --policy FILE --profile NAME
+//     node clients/page/landtree.mjs rights --policy FILE --profile NAME [--layers | --as json] [PATH..]
+//     node clients/page/landtree.mjs learn --history FILE [--client N] [--never RIGHTS] [--beneath DIR].. [--most N]
+//         [--name NAME]
+//
+// `--nodes N` goes with each --policy, `--abi N` with run and check, and `--history N` with run.
 
 const encoder = new TextEncoder();
 const decoder = new TextDecoder();
@@ -10,6 +17,10 @@ const decoder = new TextDecoder();
 export const DONE = 0;
 export const ENDED = 3;
 const TOO_SHORT = 5;
+
+// The forms of a report on checks and of a table of rights, by their numbers.
+const REPORTS = ['usual', 'quiet', 'verbose', 'tap', 'junit', 'json'];
+const TABLES = ['usual', 'layers', 'json'];
 
 // Makes an instance of the module in these bytes.
 export async function load(bytes) {
@@ -77,6 +88,12 @@ export class Landtree {
     return this.#ask('landtree_history', this.#numbers(numbers), [policy, profile, script]);
   }
 
+  // The report on a file of checks with this name and this text, in one of the forms of REPORTS.
+  check({ policy = '', profile = '', name = 'checks', checks, form = 'usual', level = 0, nodes = 4096 }) {
+    const numbers = [BigInt(level), BigInt(nodes), REPORTS.indexOf(form)];
+    return this.#ask('landtree_check', numbers, [policy, profile, name, checks]);
+  }
+
   // The bytes of the module's memory, which never shrinks.
   get memory() {
     return this.#module.memory.buffer.byteLength;
@@ -93,57 +110,136 @@ export class Landtree {
   whyEntry(history, number) {
     return this.#ask('landtree_why_entry', [BigInt(number)], [history]);
   }
+
+  // Why a policy's profile gets this answer to its command.
+  why({ policy, profile, command, nodes = 4096 }) {
+    return this.#ask('landtree_why', [BigInt(nodes)], [policy, profile, command]);
+  }
+
+  // The rights that a policy's profile is granted at these paths, or without any at the policy's nodes, in one of the
+  // forms of TABLES.
+  rights({ policy, profile, paths = [], form = 'usual', nodes = 4096 }) {
+    const lines = paths.map((it) => `${it}\n`).join('');
+    return this.#ask('landtree_rights', [BigInt(nodes), TABLES.indexOf(form)], [policy, profile, lines]);
+  }
+
+  // The least profile for what a client did in a saved history, or a line on why nothing is learned. Numbers of 0 and
+  // empty texts aren't given.
+  learn({ client = 0, most = 0, never = '', beneath = [], name = '', history }) {
+    return this.#ask('landtree_learn', [BigInt(client), BigInt(most)], [never, beneath.join('\n'), name, history]);
+  }
 }
 
 // ---- in node
 
-const NUMBERS = { '--abi': 'level', '--nodes': 'nodes', '--history': 'history' };
-const WRONG = { status: 2, bytes: encoder.encode('landtree: command line\n'), text: '' };
-const NO_FILE = { status: 1, bytes: encoder.encode('landtree: file\n'), text: '' };
+// An answer in the program's words, on standard error.
+const fault = (status, text) => ({ status, bytes: encoder.encode(text), text, isFault: true });
+const WRONG = fault(2, 'landtree: command line\n');
+const NO_FILE = fault(1, 'landtree: file\n');
 
-// Returns the words that aren't options, and the options by their names; null if a word is none that is known.
-function parse(words) {
-  const [rest, options] = [[], {}];
+// What follows an option: each returns the value of a word, and undefined for a wrong one or none. An empty text or a 0
+// stands for none that is given.
+const any = (word) => word;
+const text = (word) => word || undefined;
+const line = (word) => (/[\r\n]/.test(word) ? undefined : text(word));
+const number = (word) => (/^[0-9]{1,15}$/.test(word) ? Number(word) : undefined);
+const some = (word) => number(word) || undefined;
+// Nothing follows these.
+const FLAG = null;
+// These may be told again.
+const MANY = new Set([line]);
+
+const PROFILE = { policy: any, profile: text, nodes: number };
+// The commands: their options, and what answers them.
+const COMMANDS = {
+  __proto__: null,
+  run: [{ ...PROFILE, abi: some, history: some, strict: FLAG }, run],
+  check: [{ ...PROFILE, abi: some, quiet: FLAG, verbose: FLAG, as: any }, check],
+  audit: [{}, audit],
+  why: [PROFILE, why],
+  rights: [{ ...PROFILE, layers: FLAG, as: any }, rights],
+  learn: [{ history: any, client: some, never: text, beneath: line, most: some, name: text }, learn],
+};
+
+// Returns the words that aren't options, and the options by their names; null if a word is wrong.
+function parse(words, kinds) {
+  const [rest, options] = [[], { __proto__: null }];
   for (let i = 0; i < words.length; i++) {
-    if (words.indexOf(words[i]) < i && words[i].startsWith('--')) return null;
-    if (!words[i].startsWith('--')) rest.push(words[i]);
-    else if (words[i] === '--strict') options.strict = true;
-    else if (words[i] === '--policy' || words[i] === '--profile') options[words[i].slice(2)] = words[++i];
-    else if (NUMBERS[words[i]] && /^[0-9]{1,15}$/.test(words[i + 1])) options[NUMBERS[words[i]]] = Number(words[++i]);
-    else return null;
+    const name = words[i].startsWith('--') ? words[i].slice(2) : null;
+    if (name === null) {
+      rest.push(words[i]);
+    } else {
+      if (!Object.hasOwn(kinds, name) || (name in options && !MANY.has(kinds[name]))) return null;
+      const value = kinds[name] === FLAG || kinds[name](words[++i]);
+      if (value === undefined) return null;
+      options[name] = MANY.has(kinds[name]) ? [...(options[name] ?? []), value] : value;
+    }
   }
-  // A 0 stands for none that is given.
-  return options.level === 0 || options.history === 0 ? null : { rest, options };
+  return { rest, options };
 }
 
-// Runs the script in this file. If the opening is refused, that isn't read.
-function run(tree, read, file, options) {
-  const opened = tree.run({ ...options, script: '' });
-  if (opened.status !== DONE || opened.text !== '') return opened;
-  return tree.run({ ...options, script: read(file) });
+// Reads the policy, if one is given, and puts the program's default of nodes. An empty text would be no policy; one of
+// a line feed is as wrong as an empty file.
+function setupOf(read, { policy, abi: level, nodes = 1024, ...options }) {
+  if (policy === undefined) return { ...options, level, nodes };
+  const bytes = read(policy);
+  return { ...options, level, nodes, policy: bytes.length > 0 ? bytes : '\n' };
 }
 
-function answerOf(tree, read, words) {
-  const parsed = parse(words);
-  if (parsed === null) return WRONG;
-  const { rest: [command, file, ...more], options } = parsed;
-  if (command === 'run' && file !== undefined && more.length === 0) {
-    // An empty policy would be none; one of a line feed is as wrong as an empty file.
-    if (options.policy !== undefined) options.policy = Buffer.concat([read(options.policy), Buffer.from('\n')]);
-    return run(tree, read, file, options);
-  }
-  if (Object.keys(options).length > 0) return WRONG;
-  if (command === 'audit' && file !== undefined && more.length === 0) return tree.audit(read(file));
-  if (command === 'why' && more.length === 1 && /^[0-9]{1,15}$/.test(more[0])) {
-    return tree.whyEntry(read(file), Number(more[0]));
-  }
-  return WRONG;
+// If the opening is refused, the script isn't read.
+function run(tree, read, [file, ...more], options) {
+  if (file === undefined || more.length > 0) return WRONG;
+  const setup = setupOf(read, options);
+  const opened = tree.run({ ...setup, script: '' });
+  return opened.status !== DONE || opened.text !== '' ? opened : tree.run({ ...setup, script: read(file) });
 }
 
-// What the command answers, whose files `read` reads.
+function check(tree, read, [file, ...more], { quiet, verbose, as, ...options }) {
+  const forms = [quiet && 'quiet', verbose && 'verbose', as].filter(Boolean);
+  if (file === undefined || more.length > 0 || forms.length > 1) return WRONG;
+  if (as !== undefined && !['tap', 'junit', 'json'].includes(as)) return WRONG;
+  return tree.check({ ...setupOf(read, options), name: file, checks: read(file), form: forms[0] });
+}
+
+function audit(tree, read, [file, ...more]) {
+  return file === undefined || more.length > 0 ? WRONG : tree.audit(read(file));
+}
+
+// The words are a history and an entry's number, or with a policy the command.
+function why(tree, read, words, options) {
+  const { policy, profile } = options;
+  if (policy === undefined && profile === undefined) {
+    const entry = words.length === 2 ? number(words[1]) : undefined;
+    return entry === undefined ? WRONG : tree.whyEntry(read(words[0]), entry);
+  }
+  if (policy === undefined || profile === undefined || words.length !== 1) return WRONG;
+  return tree.why({ ...setupOf(read, options), command: words[0] });
+}
+
+function rights(tree, read, paths, { layers, as, ...options }) {
+  if (options.policy === undefined || options.profile === undefined) return WRONG;
+  if ((as ?? 'json') !== 'json' || paths.some((it) => line(it) === undefined)) return WRONG;
+  return tree.rights({ ...setupOf(read, options), paths, form: as ?? (layers ? 'layers' : 'usual') });
+}
+
+function learn(tree, read, words, lesson) {
+  if (words.length > 0 || lesson.history === undefined || lesson.client > 1e9) return WRONG;
+  const told = tree.learn({ ...lesson, history: read(lesson.history) });
+  // The text begins with the history's line, if it is about one.
+  if (told.status === ENDED) return fault(ENDED, `${lesson.history}:${told.text.replace(/^(?![0-9])/, ' ')}`);
+  if (told.status !== WRONG.status) return told;
+  const isMany = /^[0-9]+ rules, /.test(told.text);
+  return isMany ? fault(2, `${told.text.trim()}: --most 256, or --beneath DIR\nlandtree: command line\n`) : WRONG;
+}
+
+// What the command answers, whose files `read` reads. Nothing is hinted, so `--terse` asks for nothing.
 export function answer(tree, read, words) {
+  const [command, ...told] = words.filter((it) => it !== '--terse');
+  const [kinds, answerOf] = COMMANDS[command] ?? [];
+  const parsed = kinds && parse(told, kinds);
+  if (!parsed) return WRONG;
   try {
-    return answerOf(tree, read, words);
+    return answerOf(tree, read, parsed.rest, parsed.options);
   } catch (error) {
     if (error.code === undefined) throw error;
     return NO_FILE;
@@ -154,8 +250,8 @@ async function main(words) {
   const fs = await import('node:fs');
   const tree = await load(fs.readFileSync(new URL('landtree.wasm', import.meta.url)));
   const read = (name) => fs.readFileSync(name === '-' ? 0 : name);
-  const { status, bytes } = answer(tree, read, words);
-  fs.writeSync(status === DONE || status === ENDED ? 1 : 2, bytes);
+  const { status, bytes, isFault = status !== DONE && status !== ENDED } = answer(tree, read, words);
+  fs.writeSync(isFault ? 2 : 1, bytes);
   process.exitCode = status;
 }
 
