@@ -107,7 +107,7 @@ unlearned_status (fault.Denied at) = 3
 unlearned_status (fault.Full at) = 3
 unlearned_status (fault.Unmet at) = 3
 unlearned_status (fault.NoNode index) = status_of Misfit
-unlearned_status fault.NoMemory = 3
+unlearned_status fault.NoMemory = status_of NoMemory
 
 -- The profile's text, or a line on why there is none. On too many rules the words are for people
 abbrev pub IsLearnTold : Learned → (status : ℕ) → (text : List ℕ) → Type 0

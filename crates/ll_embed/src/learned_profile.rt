@@ -215,6 +215,7 @@ fn status_of_fault(fault: Unlearned) -> u32
 {
     match fault {
         Unlearned::NoNode(_) => 2,
+        Unlearned::NoMemory => 4,
         _ => 3,
     }
 }
