@@ -16,6 +16,7 @@ use Rattle.ll_why.specs.declared.path_rows.RowStyle.TheVariants as style
 use Rattle.ll_session.specs.Opening.{Opens, begun, refused, stopped}
 use Rattle.ll_session.specs.PartySession.{Session}
 use Rattle.ll_session.specs.declared.setup.Setup.{Setup}
+use Rattle.ll_program.specs.Comments.{body_of}
 use Rattle.ll_embed.specs.Answers as answers
 use Rattle.ll_embed.specs.Answers.{IsSetup, Order}
 use Rattle.ll_embed.specs.declared.ask_fault.AskFault.{AskFault}
@@ -52,18 +53,12 @@ ask_status fault = 2
 
 -- ---- the paths
 
--- a line without its line feed (10), if it has one
-abbrev pub word_of : List ℕ → List ℕ
-word_of [] = []
-word_of (b ∷ []) = if b == 10 then [] else b ∷ []
-word_of (b ∷ c ∷ bytes) = b ∷ word_of (c ∷ bytes)
-
 abbrev pub IsPath : List ℕ → Type 0
 IsPath word = IsWord word × (path_refusals word ≡ [])
 
 -- the line names the path
 abbrev pub Names : List ℕ → Path → Type 0
-Names line path = IsPath (word_of line) × (path ≡ path_of_text (word_of line))
+Names line path = IsPath (body_of line) × (path ≡ path_of_text (body_of line))
 
 -- each line of the text names one of the paths, in order
 abbrev pub AreNamed : List ℕ → List Path → Type 0
@@ -72,7 +67,7 @@ AreNamed text paths = AllZip Names (pieces text) paths
 -- a line names no path
 abbrev pub NameNone : List (List ℕ) → Type 0
 NameNone [] = ⊥
-NameNone (line ∷ lines) = (IsPath (word_of line) → ⊥) ⊎ NameNone lines
+NameNone (line ∷ lines) = (IsPath (body_of line) → ⊥) ⊎ NameNone lines
 
 -- why a text gives no paths
 abbrev pub IsOfNames : AskFault → Type 0

@@ -1,7 +1,8 @@
 //! The paths that the lines of a text name.
 
 ghost use Rattle.std.specs.Prelude.{◌≡◌, ◌∷◌, ◌++◌, [], IfErr, IfOk, OnOk};
-ghost use Rattle.ll_embed.specs.Questions.{AreNamed, IsOfNames, IsPath, NameNone, Names, word_of};
+ghost use Rattle.ll_embed.specs.Questions.{AreNamed, IsOfNames, IsPath, NameNone, Names};
+ghost use Rattle.ll_program.specs.Comments.{body_of};
 ghost use Rattle.ll_embed.specs.declared.ask_fault.AskFault.{AskFault};
 ghost use Rattle.ll_path.specs.Path as path_of;
 ghost use Rattle.ll_path.specs.Path.{path_of_text};
@@ -10,19 +11,9 @@ ghost use Rattle.ll_wire.specs.Pieces.{pieces};
 use crate::ask_fault::AskFault;
 use crate::fault::Fault;
 use ll_path::{Path, Word};
+use ll_program::body_of;
 use ll_wire::split_line;
 use std::alloc::Global;
-
-// Returns the line without its line feed, if it has one.
-#[tactic(auto, using(crate::proofs::Bare::if_ended, crate::proofs::Bare::if_open, crate::proofs::Bare::if_empty))]
-fn word_of(line: &[u8]) -> &[u8]
-    ensures { result.now ≡ word_of line.now }
-{
-    let Some((last, word)) = line.split_last() else {
-        return line;
-    };
-    if *last == b'\n' { word } else { line }
-}
 
 // Returns the path that the word spells.
 fn path_of(alloc: Global, word: &[u8]) -> Result<Path, AskFault>
@@ -56,10 +47,10 @@ fn path_of(alloc: Global, word: &[u8]) -> Result<Path, AskFault>
 fn push_named(alloc: Global, paths: &mut Vec<Path>, line: &[u8]) -> Result<(), AskFault>
     ensures ok { OnOk result ((path : path_of.Path) × Names line.now path
         × (paths.new.items ≡ paths.old.items ++ path ∷ [])) }
-    ensures bad { IfErr result (λ fault. fault ≡ AskFault.WrongPath → IsPath (word_of line.now) → ⊥) }
+    ensures bad { IfErr result (λ fault. fault ≡ AskFault.WrongPath → IsPath (body_of line.now) → ⊥) }
     ensures fault { IfErr result IsOfNames }
 {
-    let path = match path_of(alloc, word_of(line)) {
+    let path = match path_of(alloc, body_of(line)) {
         Ok(path) => path,
         Err(fault) => return Err(fault),
     };
