@@ -22,9 +22,16 @@ const TOO_SHORT = 5;
 const REPORTS = ['usual', 'quiet', 'verbose', 'tap', 'junit', 'json'];
 const TABLES = ['usual', 'layers', 'json'];
 
-// Makes an instance of the module in these bytes.
+// A server may have unpacked the file already.
+function unpacked(bytes) {
+  const [first, second] = new Uint8Array(bytes);
+  if (first !== 0x1f || second !== 0x8b) return bytes;
+  return new Response(new Blob([bytes]).stream().pipeThrough(new DecompressionStream('gzip'))).arrayBuffer();
+}
+
+// Makes an instance of the module in the bytes of landtree.wasm.gz, packed or not.
 export async function load(bytes) {
-  const { instance } = await WebAssembly.instantiate(bytes, {});
+  const { instance } = await WebAssembly.instantiate(await unpacked(bytes), {});
   return new Landtree(instance.exports);
 }
 
@@ -246,11 +253,22 @@ export function answer(tree, read, words) {
   }
 }
 
+// Makes an instance of the module beside this file. Where that fails, a line says why, and null comes back.
+async function moduleBeside(fs) {
+  try {
+    return await load(fs.readFileSync(new URL('landtree.wasm.gz', import.meta.url)));
+  } catch (error) {
+    fs.writeSync(2, `landtree.wasm.gz: ${error.message}\n`);
+    return null;
+  }
+}
+
 async function main(words) {
   const fs = await import('node:fs');
-  const tree = await load(fs.readFileSync(new URL('landtree.wasm', import.meta.url)));
+  const tree = await moduleBeside(fs);
   const read = (name) => fs.readFileSync(name === '-' ? 0 : name);
-  const { status, bytes, isFault = status !== DONE && status !== ENDED } = answer(tree, read, words);
+  const { status, bytes, isFault = status !== DONE && status !== ENDED } =
+    tree === null ? NO_FILE : answer(tree, read, words);
   fs.writeSync(isFault ? 2 : 1, bytes);
   process.exitCode = status;
 }

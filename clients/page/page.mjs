@@ -205,7 +205,7 @@ function show(values) {
 }
 
 try {
-  tree = await load(await (await fetch('landtree.wasm')).arrayBuffer());
+  tree = await load(await (await fetch('landtree.wasm.gz')).arrayBuffer());
   at('example').append(...EXAMPLES.map(({ name }) => new Option(name)));
   at('example').onchange = () => show(EXAMPLES[at('example').selectedIndex]);
   for (const id of FIELDS) at(id).oninput = act;
