@@ -2,7 +2,9 @@ pub mod Accepting
 pub mod Choosing
 pub mod Clearing
 pub mod Denials
+pub mod Differing
 pub mod Demanding
+pub mod Ended
 pub mod Growing
 pub mod Judging
 pub mod Leasts

@@ -1,12 +1,8 @@
 -- Texts that grow token by token.
-use Rattle.std.specs.Prelude.{◌≡◌, ℕ, zero, suc, ◌-◌, ◌≤◌, length, List, [], ◌∷◌, ◌++◌, take, drop, refl, Result}
+use Rattle.std.specs.Prelude.{◌≡◌, ℕ, List, ◌∷◌, ◌++◌, Result}
 use Rattle.std.specs.Prelude.{Ok, Err, OnOk}
-use Rattle.std.specs.List.{join_with_byte}
-use Rattle.std.proofs.Common.{ap, sym, ◌∙◌, append_assoc, arith, length-drop}
-use Rattle.std.proofs.lemmas.Bool.{lt-ltb}
-use Rattle.std.proofs.lemmas.List.{take_all}
+use Rattle.std.proofs.Common.{ap, sym, ◌∙◌, append_assoc}
 use Rattle.std.proofs.lemmas.List.Concat.{flat_map-append}
-use Rattle.ll_path.specs.Path.{Path, path_text}
 use Rattle.ll_why.specs.Table.{behind}
 
 pub behind_append : (xs ys : List (List ℕ)) → behind (xs ++ ys) ≡ behind xs ++ behind ys
@@ -28,3 +24,7 @@ two text next last some more e f =
 pub on_ok : {A E : Type 0} (r : Result A E) (P Q : Type 0) → OnOk r P → (P → Q) → OnOk r Q
 on_ok (Ok a) P Q p f = f p
 on_ok (Err e) P Q p f = tt
+
+pub both_ok : {A E : Type 0} (r : Result A E) (P Q R : Type 0) → OnOk r P → OnOk r Q → (P → Q → R) → OnOk r R
+both_ok (Ok a) P Q R p q f = f p q
+both_ok (Err e) P Q R p q f = tt

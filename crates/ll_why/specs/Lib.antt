@@ -1,7 +1,9 @@
 pub mod CallWhy
 pub mod Chains
 pub mod Changes
+pub mod Difference
 pub mod Entries
+pub mod EntryJson
 pub mod Explained
 pub mod Grants
 pub mod Names
@@ -14,3 +16,4 @@ pub mod Rights
 pub mod RightsJson
 pub mod Table
 pub mod Told
+pub mod WhyJson

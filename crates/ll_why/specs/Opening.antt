@@ -15,9 +15,12 @@ use Rattle.ll_wire.specs.Grammar.{call_tokens, line_of}
 use Rattle.ll_why.specs.Reasons.{kept_number}
 use Rattle.ll_why.specs.declared.why.Why.{Why}
 use Rattle.ll_why.specs.declared.why.Why.TheVariants.{Kept}
+use Rattle.ll_why.specs.EntryJson.{opening_json}
 use Rattle.ll_why.specs.Explained.{IsExplained}
 use Rattle.ll_why.specs.Told.{told_text}
 use Rattle.ll_why.specs.declared.explanation.Explanation.{Explanation}
+use Rattle.ll_why.specs.declared.style.WhyStyle.{WhyStyle}
+use Rattle.ll_why.specs.declared.style.WhyStyle.TheVariants.{Lines, Json}
 
 -- the path that an opening opens
 abbrev pub target_opened : Call → Option Target
@@ -67,20 +70,28 @@ abbrev pub opening_behind : List Entry → Entry → Option Explanation → Opti
 opening_behind es e told = option_and_then (λ (fd : ℕ). openings es e.client fd) (kept_descriptor e.call told)
 
 -- its number, its client and its call, and what policy says of a truncate there
-abbrev pub opening_text : ℕ → Entry → Call → Option Explanation → List ℕ
-opening_text number e truncate told = concat (
+abbrev pub opening_lines : ℕ → Entry → Call → Option Explanation → List ℕ
+opening_lines number e truncate told = concat (
     codes "opened by entry " ∷ decimal number ∷ codes ", client " ∷ decimal e.client ∷ codes ": "
     ∷ line_of (call_tokens e.call) ∷ codes "a truncate there:\n" ∷ option_map_or (told_text truncate) told [] ∷ [])
 
+abbrev pub opening_text : WhyStyle → ℕ → Entry → Call → Option Explanation → List ℕ
+opening_text Lines number e truncate told = opening_lines number e truncate told
+opening_text Json number e truncate told = opening_json number e truncate told
+
+-- if no opening decides the call
+abbrev pub no_opening : WhyStyle → List ℕ
+no_opening Lines = []
+no_opening Json = codes "null"
+
 -- the text is on the last of these entries, with a truncate of what it opens, in the state after it
-pub record TellsOpening (s : State) (upto : List Entry) (e : Entry) (text : List ℕ) : Type 0 where
+pub record TellsOpening (style : WhyStyle) (s : State) (upto : List Entry) (e : Entry) (text : List ℕ) : Type 0 where
   pub target : Target
   pub told : Option Explanation
   pub opens : target_opened e.call ≡ Some target
   pub explained : IsExplained s.rules.abi (state_after s upto) e.client (Truncate target 0) told
-  pub is : text ≡ opening_text (length upto) e (Truncate target 0) told
+  pub is : text ≡ opening_text style (length upto) e (Truncate target 0) told
 
--- without such an opening the text is empty
-abbrev pub IsOpeningText : State → Option (List Entry × Entry) → List ℕ → Type 0
-IsOpeningText s None text = text ≡ []
-IsOpeningText s (Some opening) text = TellsOpening s opening.0 opening.1 text
+abbrev pub IsOpeningText : WhyStyle → State → Option (List Entry × Entry) → List ℕ → Type 0
+IsOpeningText style s None text = text ≡ no_opening style
+IsOpeningText style s (Some opening) text = TellsOpening style s opening.0 opening.1 text

@@ -12,14 +12,15 @@ use Rattle.ll_seq.specs.declared.call.Call.TheVariants.{Link, Ruleset, Allow, Co
 use Rattle.ll_seq.specs.State.{State}
 use Rattle.ll_why.specs.Rights.{AreRightsAt}
 use Rattle.ll_why.specs.declared.rights.RightsAt.{RightsAt}
-use Rattle.ll_why.specs.RightsJson.{path_json}
+use Rattle.ll_why.specs.RightsJson.{path_json, profile_json}
 use Rattle.ll_why.specs.Table.{row_line}
 use Rattle.ll_why.specs.declared.path_rows.RowStyle.{RowStyle}
-use Rattle.ll_why.specs.declared.path_rows.RowStyle.TheVariants.{Line, Json}
+use Rattle.ll_why.specs.declared.path_rows.RowStyle.TheVariants.{Line, Json, ProfileJson}
 
 abbrev pub row_in : RowStyle → Path → RightsAt → List ℕ
 row_in (Line layers) path told = row_line path told layers
 row_in Json path told = path_json path told
+row_in (ProfileJson profile) path told = profile_json profile.now path told
 
 -- a line for each path, in order
 abbrev pub AreRows : State → List Layer → RowStyle → List Path → List ℕ → Type 0

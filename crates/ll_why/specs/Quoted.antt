@@ -16,3 +16,7 @@ quoted name = concat (codes "\"" ∷ name ∷ codes "\"" ∷ [])
 -- the names of the rights in a set, in their order
 abbrev pub json_names : ℕ → List ℕ
 json_names set = join_by quoted (codes ", ") (set_names set)
+
+-- texts with commas between
+abbrev pub listed : List (List ℕ) → List ℕ
+listed texts = join_by (λ t. t) (codes ", ") texts

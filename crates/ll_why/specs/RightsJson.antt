@@ -25,13 +25,16 @@ abbrev pub ruled_json : Path → ℕ × Ruled → List (List ℕ)
 ruled_json path r =
     if r.1.rights.0 == 0 then [] else rule_json (path_text (take r.0 path)) r.1.rights.0 ∷ []
 
--- a layer: what it doesn't restrict; what its rules allow, from the root on; what it doesn't grant
-abbrev pub grants_json : Path → Grants → List ℕ
-grants_json path g = concat (
-    codes "{\"unrestricted\": [" ∷ json_names g.free.0
+-- what a layer doesn't restrict; what its rules allow, from the root on; what it doesn't grant
+abbrev pub grants_fields : Path → Grants → List ℕ
+grants_fields path g = concat (
+    codes "\"unrestricted\": [" ∷ json_names g.free.0
     ∷ codes "], \"rules\": ["
     ∷ join_by (λ t. t) (codes ", ") (flat_map (ruled_json path) (enumerate_from 0 g.ruled.items))
-    ∷ codes "], \"missing\": [" ∷ json_names g.missing.0 ∷ codes "]}" ∷ [])
+    ∷ codes "], \"missing\": [" ∷ json_names g.missing.0 ∷ codes "]" ∷ [])
+
+abbrev pub grants_json : Path → Grants → List ℕ
+grants_json path g = concat (codes "{" ∷ grants_fields path g ∷ codes "}" ∷ [])
 
 -- a node: its kind, what all layers grant on it, and what each does, the oldest first
 abbrev pub node_json : Path → PathRights → List ℕ
@@ -58,3 +61,9 @@ there_json path (Nowhere kind) = nowhere_json kind
 abbrev pub path_json : Path → RightsAt → List ℕ
 path_json path told = concat (
     codes "{\"path\": " ∷ json_string (path_text path) ∷ codes ", " ∷ there_json path told ∷ codes "}\n" ∷ [])
+
+-- the same, which begins with the profile of this name
+abbrev pub profile_json : List ℕ → Path → RightsAt → List ℕ
+profile_json profile path told = concat (
+    codes "{\"profile\": " ∷ json_string profile ∷ codes ", \"path\": " ∷ json_string (path_text path)
+    ∷ codes ", " ∷ there_json path told ∷ codes "}\n" ∷ [])

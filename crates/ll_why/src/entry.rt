@@ -1,12 +1,14 @@
 //! Explains one entry of a history.
 
-ghost use Rattle.std.specs.Prelude.{◌≡◌, ◌<◌, ◌-◌, ◌^◌, ◌↔◌, [], IfOk, IsTrue, string_bytes};
+ghost use Rattle.std.specs.Prelude.{◌≡◌, ◌<◌, ◌-◌, ◌++◌, ◌^◌, ◌↔◌, [], IfOk, IsTrue, string_bytes};
 ghost use Rattle.std.specs.Option.{option_map_or};
 ghost use Rattle.ll_seq.specs.History.{MayStand, is_connect};
-ghost use Rattle.ll_why.specs.Entries.{IsStanding, entry_text, standing_line};
+ghost use Rattle.ll_why.specs.Entries.{IsStanding, entry_lines, entry_text, standing_line};
 ghost use Rattle.ll_why.specs.Explained.{IsExplained};
 ghost use Rattle.ll_why.specs.Told.{told_text};
 
+use crate::WhyStyle;
+use crate::entry_json::entry_json;
 use crate::explanation::{Explanation, call_line, explain};
 use crate::text::concat;
 use ll_plain::Plain;
@@ -25,7 +27,17 @@ pub enum Standing {
     Answers(Reply),
 }
 
-fn is_connect(call: &Call) -> bool
+/// An entry, its number from 1, whether it is legal, and what policy says of its call, if its client exists.
+#[derive(Clone, Copy)]
+pub(crate) struct EntryTold<'a> {
+    pub number: usize,
+    pub entry: &'a Entry,
+    pub standing: &'a Standing,
+    pub told: &'a Option<Explanation>,
+}
+
+/// Reports whether the call is a connect.
+pub(crate) fn is_connect(call: &Call) -> bool
     ensures { result ≡ is_connect call.now }
 {
     matches!(call, Call::Connect)
@@ -107,23 +119,18 @@ pub(crate) fn told_lines(
     }
 }
 
-/// Returns the text on the entry with this number: its client, its call and its reply, whether it is legal, and what
-/// policy says of the call.
-pub(crate) fn entry_text(
-    alloc: Global,
-    number: usize,
-    entry: &Entry,
-    standing: &Standing,
-    told: &Option<Explanation>,
-) -> Result<String, AllocError>
-    ensures { IfOk result (λ text. string_bytes text ≡ entry_text number entry.now standing.now told.now) }
+// Returns the lines on the entry: its number, its client, its call and its reply, whether it is legal, and what policy
+// says of the call.
+fn entry_lines(alloc: Global, it: &EntryTold<'_>) -> Result<String, AllocError>
+    ensures { IfOk result (λ text. string_bytes text
+        ≡ entry_lines it.now.number it.now.entry.now it.now.standing.now it.now.told.now) }
 {
-    let number = number.to_string(alloc)?;
-    let client = entry.client.to_string(alloc)?;
-    let call = call_line(alloc, &entry.call)?;
-    let reply = reply_text_behind(alloc, "answered", &entry.reply)?;
-    let stands = standing_line(alloc, entry, standing)?;
-    let why = told_lines(alloc, &entry.call, told)?;
+    let number = it.number.to_string(alloc)?;
+    let client = it.entry.client.to_string(alloc)?;
+    let call = call_line(alloc, &it.entry.call)?;
+    let reply = reply_text_behind(alloc, "answered", &it.entry.reply)?;
+    let stands = standing_line(alloc, it.entry, it.standing)?;
+    let why = told_lines(alloc, &it.entry.call, it.told)?;
     let parts = [
         "entry ",
         number.as_str(),
@@ -136,4 +143,30 @@ pub(crate) fn entry_text(
         why.as_str(),
     ];
     concat(alloc, &parts)
+}
+
+// Returns the lines on the entry, and then this opening.
+fn lines_with(alloc: Global, it: &EntryTold<'_>, opening: &str) -> Result<String, AllocError>
+    ensures { IfOk result (λ text. string_bytes text
+        ≡ entry_lines it.now.number it.now.entry.now it.now.standing.now it.now.told.now ++ opening.now) }
+{
+    let mut text = entry_lines(alloc, it)?;
+    text.push_str(opening)?;
+    Ok(text)
+}
+
+/// Returns the text on the entry, with that on the opening that decides its call. Errors: memory ran out.
+pub(crate) fn entry_text(
+    alloc: Global,
+    style: WhyStyle,
+    it: &EntryTold<'_>,
+    opening: &str,
+) -> Result<String, AllocError>
+    ensures { IfOk result (λ text. string_bytes text ≡ entry_text style it.now.number it.now.entry.now
+        it.now.standing.now it.now.told.now opening.now) }
+{
+    match style {
+        WhyStyle::Lines => lines_with(alloc, it, opening),
+        WhyStyle::Json => entry_json(alloc, it, opening),
+    }
 }

@@ -8,9 +8,9 @@ ghost use Rattle.ll_wire.specs.Pieces.{pieces};
 ghost use Rattle.ll_audit.specs.Saved.{opened};
 ghost use Rattle.ll_why.specs.Entries.{IsEntryWhy, IsHistoryWhy, IsStanding, IsTextOf, IsToldOf, IsWhyNot};
 
-use crate::entry::{Standing, answer_at, entry_text, explain_at, standing_line};
-use crate::opening::opening_lines;
-use crate::text::concat;
+use crate::WhyStyle;
+use crate::entry::{EntryTold, Standing, answer_at, entry_text, explain_at, standing_line};
+use crate::opening::opening_of;
 use crate::tree::{open, tree_after};
 use ll_audit::{AuditFault, ReadFault, Saved, follow};
 use ll_plain::Plain;
@@ -21,7 +21,7 @@ use std::alloc::{AllocError, Global};
 /// The explanation of an entry of a saved history.
 #[derive(Drop)]
 pub enum HistoryWhy {
-    /// Lines for people.
+    /// Lines for people, or an object of JSON.
     Told(String),
     /// The first malformed line, counted from 1.
     BadLine(usize),
@@ -66,6 +66,7 @@ fn standing_at(tree: &mut Plain, entry: &Entry, stands: bool) -> Result<Standing
 // Returns the text on the entry with this number, which is legal or not, as `stands` says.
 fn text_of(
     alloc: Global,
+    style: WhyStyle,
     header: &Header,
     entries: &[Entry],
     number: usize,
@@ -78,7 +79,7 @@ fn text_of(
     requires legal { IsLegal (opened header.now) (take (number - 1) entries.now) }
     requires yes { stands ≡ true → IsLegal (opened header.now) (take number entries.now) }
     requires no { stands ≡ false → IsLegal (opened header.now) (take number entries.now) → ⊥ }
-    ensures { IfOk result (λ text. IsTextOf (opened header.now) entries.now number (string_bytes text)) }
+    ensures { IfOk result (λ text. IsTextOf style (opened header.now) entries.now number (string_bytes text)) }
 {
     let before = &entries[..number - 1];
     let mut tree = tree_after(alloc, header, before)?;
@@ -86,9 +87,14 @@ fn text_of(
     let level = header.version.rules().abi;
     let told = explain_at(alloc, &tree, level, entry.client, &entry.call)?;
     let standing = standing_at(&mut tree, entry, stands)?;
-    let text = entry_text(alloc, number, entry, &standing, &told)?;
-    let opening = opening_lines(alloc, header, before, entry, &told)?;
-    concat(alloc, &[text.as_str(), opening.as_str()])
+    let opening = opening_of(alloc, style, header, before, entry, &told)?;
+    let it = EntryTold {
+        number,
+        entry,
+        standing: &standing,
+        told: &told,
+    };
+    entry_text(alloc, style, &it, opening.as_str())
 }
 
 /// Explains the entry with this number, counted from 1, in the history of a tree created with this header. Gives its
@@ -98,6 +104,7 @@ fn text_of(
 /// this number. Errors: memory ran out.
 pub fn explain_entry(
     alloc: Global,
+    style: WhyStyle,
     header: &Header,
     entries: &[Entry],
     wanted: usize,
@@ -105,14 +112,14 @@ pub fn explain_entry(
     requires some { 1 ≤ header.now.nodes }
     requires most { header.now.nodes ≤ TREE_NODES }
     ensures { IfOk result (λ told. MatchOption told ((wanted ≡ 0) ⊎ (length entries.now < wanted))
-        (λ text. IsEntryWhy (opened header.now) entries.now wanted (string_bytes text))) }
+        (λ text. IsEntryWhy style (opened header.now) entries.now wanted (string_bytes text))) }
 {
     if wanted == 0 || wanted > entries.len() {
         return Ok(None);
     }
     let tree = open(alloc, header)?;
     let (number, stands) = number_told(tree, entries, wanted)?;
-    let text = text_of(alloc, header, entries, number, stands)?;
+    let text = text_of(alloc, style, header, entries, number, stands)?;
     Ok(Some(text))
 }
 
@@ -167,15 +174,26 @@ pub fn why_not(
 
 /// Explains the entry with this number, counted from 1, of the saved history in these bytes, as `explain_entry` does.
 /// Errors: memory ran out.
-pub fn why_entry(alloc: Global, bytes: &[u8], wanted: usize) -> Result<HistoryWhy, AllocError>
-    ensures { IfOk result (IsHistoryWhy (pieces bytes.now) wanted) }
+pub fn why_entry(
+    alloc: Global,
+    style: WhyStyle,
+    bytes: &[u8],
+    wanted: usize,
+) -> Result<HistoryWhy, AllocError>
+    ensures { IfOk result (IsHistoryWhy style (pieces bytes.now) wanted) }
 {
     let saved = match Saved::read(alloc, bytes) {
         Ok(saved) => saved,
         Err(ReadFault::BadLine(line)) => return Ok(HistoryWhy::BadLine(line)),
         Err(ReadFault::NoMemory) => return Err(AllocError),
     };
-    match explain_entry(alloc, &saved.header, saved.entries.as_slice(), wanted)? {
+    match explain_entry(
+        alloc,
+        style,
+        &saved.header,
+        saved.entries.as_slice(),
+        wanted,
+    )? {
         Some(text) => Ok(HistoryWhy::Told(text)),
         None => Ok(HistoryWhy::NoEntry),
     }

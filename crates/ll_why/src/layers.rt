@@ -68,8 +68,8 @@ fn grant_lines(
     concat(alloc, &[free.as_str(), ruled.as_str(), missing.as_str()])
 }
 
-// Returns what a layer grants of the rights needed here.
-fn grants_in(told: &LayerReason, on: On) -> &Grants
+/// Returns what a layer grants of the rights needed here.
+pub(crate) fn grants_in(told: &LayerReason, on: On) -> &Grants
     ensures { result.now ≡ grants_in told.now on }
 {
     match on {

@@ -1,16 +1,21 @@
 //! Which rights the layers of a client grant on a path, and by which rules; and why a call is denied.
 #![tactic(auto)]
 
+mod additions_json;
 mod asks;
 mod call_text;
 mod chain;
 mod change;
+mod comparison;
 mod demands;
+mod difference;
 mod entry;
+mod entry_json;
 mod explanation;
 mod grants;
 mod history;
 mod layers;
+mod layers_json;
 mod opening;
 mod path_rows;
 mod paths;
@@ -19,15 +24,20 @@ mod quoted;
 mod reason;
 mod rights;
 mod rights_json;
+mod style;
 mod table;
 mod text;
 mod tree;
 mod why;
+mod why_json;
+mod words;
 
 pub use asks::Asks;
 pub use call_text::call_why;
 pub use chain::PathChains;
 pub use change::{LayerChange, change_for};
+pub use comparison::{Comparison, Differences, View};
+pub use difference::{DifferenceStyle, difference_in};
 pub use entry::Standing;
 pub use explanation::{Explanation, call_line, explain};
 pub use grants::{Grants, Ruled};
@@ -37,6 +47,7 @@ pub use quoted::{json_names, json_string};
 pub use reason::{LayerReason, Reason};
 pub use rights::{PathRights, RightsAt, rights_at};
 pub use rights_json::path_json;
+pub use style::WhyStyle;
 pub use table::row_text;
 pub use text::{concat, joined};
 pub use why::{Why, kept_number, why_of};

@@ -5,13 +5,15 @@ ghost use Rattle.std.specs.Prelude.{if◌then◌else◌};
 ghost use Rattle.ll_rights.specs.declared.limits.TheConstants.{TREE_NODES};
 ghost use Rattle.ll_audit.specs.Saved.{opened};
 ghost use Rattle.ll_why.specs.Opening.{IsOpeningText, TellsOpening, is_opened, is_spawned, kept_descriptor};
-ghost use Rattle.ll_why.specs.Opening.{opening_behind, opening_text, openings, opens, target_opened};
+ghost use Rattle.ll_why.specs.Opening.{no_opening, opening_behind, opening_lines, opening_text, openings, opens};
+ghost use Rattle.ll_why.specs.Opening.{target_opened};
 
-use crate::Why;
 use crate::entry::{explain_at, told_lines};
+use crate::entry_json::opening_json;
 use crate::explanation::{Explanation, call_line};
 use crate::text::concat;
 use crate::tree::tree_after;
+use crate::{Why, WhyStyle};
 use ll_path::{Target, Word};
 use ll_seq::{Call, Entry, Reply};
 use ll_wire::Header;
@@ -138,15 +140,15 @@ fn truncate_of(alloc: Global, target: &Target) -> Result<Call, AllocError>
     Ok(Call::Truncate(target, 0))
 }
 
-// Returns the text on the entry with this number, which opened a descriptor, and what policy says of a truncate there.
-fn opening_text(
+// Returns the lines on the entry with this number, which opened a descriptor, and what policy says of a truncate there.
+fn opening_lines(
     alloc: Global,
     number: usize,
     entry: &Entry,
     truncate: &Call,
     told: &Option<Explanation>,
 ) -> Result<String, AllocError>
-    ensures { IfOk result (λ text. string_bytes text ≡ opening_text number entry.now truncate.now told.now) }
+    ensures { IfOk result (λ text. string_bytes text ≡ opening_lines number entry.now truncate.now told.now) }
 {
     let number = number.to_string(alloc)?;
     let client = entry.client.to_string(alloc)?;
@@ -165,25 +167,57 @@ fn opening_text(
     concat(alloc, &parts)
 }
 
+fn opening_text(
+    alloc: Global,
+    style: WhyStyle,
+    number: usize,
+    entry: &Entry,
+    truncate: &Call,
+    told: &Option<Explanation>,
+) -> Result<String, AllocError>
+    ensures { IfOk result (λ text. string_bytes text
+        ≡ opening_text style number entry.now truncate.now told.now) }
+{
+    match style {
+        WhyStyle::Lines => opening_lines(alloc, number, entry, truncate, told),
+        WhyStyle::Json => opening_json(alloc, number, entry, truncate, told),
+    }
+}
+
+fn no_opening(style: WhyStyle) -> &'static str
+    ensures { result.now ≡ no_opening style }
+{
+    match style {
+        WhyStyle::Lines => "",
+        WhyStyle::Json => "null",
+    }
+}
+
 // Returns the text on an opening.
-fn lines_of(alloc: Global, header: &Header, opening: &Opening<'_>) -> Result<String, AllocError>
+fn text_on(
+    alloc: Global,
+    style: WhyStyle,
+    header: &Header,
+    opening: &Opening<'_>,
+) -> Result<String, AllocError>
     requires some { 1 ≤ header.now.nodes }
     requires most { header.now.nodes ≤ TREE_NODES }
     requires target { target_opened opening.now.last.now.call ≡ Some opening.now.target.now }
-    ensures { IfOk result (λ text. TellsOpening (opened header.now) opening.now.upto.now
+    ensures { IfOk result (λ text. TellsOpening style (opened header.now) opening.now.upto.now
         opening.now.last.now (string_bytes text)) }
 {
     let tree = tree_after(alloc, header, opening.upto)?;
     let truncate = truncate_of(alloc, opening.target)?;
     let level = header.version.rules().abi;
     let told = explain_at(alloc, &tree, level, opening.last.client, &truncate)?;
-    opening_text(alloc, opening.upto.len(), opening.last, &truncate, &told)
+    let number = opening.upto.len();
+    opening_text(alloc, style, number, opening.last, &truncate, &told)
 }
 
-/// Returns the text on the opening of the descriptor that decides the entry's call, which follows these entries. Empty
-/// if none decides it.
-pub(crate) fn opening_lines(
+/// Returns the text on the opening of the descriptor that decides the entry's call, which follows these entries.
+pub(crate) fn opening_of(
     alloc: Global,
+    style: WhyStyle,
     header: &Header,
     entries: &[Entry],
     entry: &Entry,
@@ -191,11 +225,11 @@ pub(crate) fn opening_lines(
 ) -> Result<String, AllocError>
     requires some { 1 ≤ header.now.nodes }
     requires most { header.now.nodes ≤ TREE_NODES }
-    ensures { IfOk result (λ text. IsOpeningText (opened header.now)
+    ensures { IfOk result (λ text. IsOpeningText style (opened header.now)
         (opening_behind entries.now entry.now told.now) (string_bytes text)) }
 {
     match opening_behind(entries, entry, told) {
-        Some(opening) => lines_of(alloc, header, &opening),
-        None => Ok(String::new(alloc)),
+        Some(opening) => text_on(alloc, style, header, &opening),
+        None => String::from_str(alloc, no_opening(style)),
     }
 }

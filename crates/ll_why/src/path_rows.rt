@@ -4,7 +4,7 @@ ghost use Rattle.std.specs.Prelude.{◌≡◌, ◌∷◌, [], IfOk, OnOk, option
 ghost use Rattle.ll_why.specs.PathRows.{AddsRows, AreRows, made_path, made_paths, paths_or_nodes, row_in};
 ghost use Rattle.ll_why.specs.PathRows.{target_path};
 
-use crate::rights_json::path_json;
+use crate::rights_json::{path_json, profile_json};
 use crate::table::row_text;
 use crate::{RightsAt, rights_at};
 use ll_path::{Path, Target};
@@ -15,11 +15,13 @@ use std::alloc::{AllocError, Global};
 
 /// How the rights at a path are written.
 #[derive(Clone, Copy, Debug, PartialEq, Eq)]
-pub enum RowStyle {
+pub enum RowStyle<'a> {
     /// A line of text, with a column for each layer or without.
     Line(bool),
     /// An object of JSON on a line.
     Json,
+    /// The same, which begins with this profile's name.
+    ProfileJson(&'a str),
 }
 
 // Returns the line of one path.
@@ -29,11 +31,12 @@ fn row_in(
     told: &RightsAt,
     style: RowStyle,
 ) -> Result<String, AllocError>
-    ensures { IfOk result (λ text. string_bytes text ≡ row_in style path.now told.now) }
+    ensures { IfOk result (λ text. string_bytes text ≡ row_in style.entry path.now told.now) }
 {
     match style {
         RowStyle::Line(layers) => row_text(alloc, path, told, layers),
         RowStyle::Json => path_json(alloc, path, told),
+        RowStyle::ProfileJson(profile) => profile_json(alloc, profile, path, told),
     }
 }
 
@@ -46,8 +49,8 @@ fn target_path(target: &Target) -> Option<&Path>
     }
 }
 
-// Returns the path of the node that the call creates, if any.
-fn made_path(call: &Call) -> Option<&Path>
+/// Returns the path of the node that the call creates, if any.
+pub(crate) fn made_path(call: &Call) -> Option<&Path>
     ensures { option_map (λ p. p.now) result ≡ made_path call.now }
 {
     match call {
@@ -66,7 +69,7 @@ fn push_row(
     text: &mut String,
 ) -> Result<(), AllocError>
     ensures { OnOk result
-        (AddsRows tree.now domain.now style (path.now ∷ []) (string_bytes text.old) (string_bytes text.new)) }
+        (AddsRows tree.now domain.now style.entry (path.now ∷ []) (string_bytes text.old) (string_bytes text.new)) }
 {
     let told = rights_at(alloc, tree, domain, path)?;
     let row = row_in(alloc, path, &told, style)?;
@@ -83,7 +86,7 @@ fn push_node(
     call: &Call,
     text: &mut String,
 ) -> Result<(), AllocError>
-    ensures { OnOk result (AddsRows tree.now domain.now style (option_to_list (made_path call.now))
+    ensures { OnOk result (AddsRows tree.now domain.now style.entry (option_to_list (made_path call.now))
         (string_bytes text.old) (string_bytes text.new)) }
 {
     match made_path(call) {
@@ -100,7 +103,7 @@ fn rows_of_paths(
     style: RowStyle,
     paths: &[Path],
 ) -> Result<String, AllocError>
-    ensures { IfOk result (λ text. AreRows tree.now domain.now style paths.now (string_bytes text)) }
+    ensures { IfOk result (λ text. AreRows tree.now domain.now style.entry paths.now (string_bytes text)) }
 {
     let mut text = String::new(alloc);
     for path in paths {
@@ -117,7 +120,7 @@ fn rows_of_nodes(
     style: RowStyle,
     calls: &[Call],
 ) -> Result<String, AllocError>
-    ensures { IfOk result (λ text. AreRows tree.now domain.now style (made_paths calls.now) (string_bytes text)) }
+    ensures { IfOk result (λ text. AreRows tree.now domain.now style.entry (made_paths calls.now) (string_bytes text)) }
 {
     let mut text = String::new(alloc);
     for call in calls {
@@ -135,7 +138,7 @@ pub fn rows_text(
     paths: &[Path],
     calls: &[Call],
 ) -> Result<String, AllocError>
-    ensures { IfOk result (λ text. AreRows tree.now domain.now style (paths_or_nodes paths.now calls.now)
+    ensures { IfOk result (λ text. AreRows tree.now domain.now style.entry (paths_or_nodes paths.now calls.now)
         (string_bytes text)) }
 {
     if paths.is_empty() {

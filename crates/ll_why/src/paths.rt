@@ -1,11 +1,11 @@
 //! The nodes that a call needs rights on, as texts.
 
-ghost use Rattle.std.specs.Prelude.{◌≡◌, ◌++◌, [], IfOk, OnOk, option_map, string_bytes, take, unwrap_or};
+ghost use Rattle.std.specs.Prelude.{◌≡◌, ◌++◌, IfOk, OnOk, string_bytes, take};
 ghost use Rattle.ll_decide.specs.Demands.{place_on, set_on};
 ghost use Rattle.ll_path.specs.Path.{path_text};
 ghost use Rattle.ll_seq.specs.Call.{first_path, path_of, second_path};
 ghost use Rattle.ll_why.specs.Reasons.{chain_of};
-ghost use Rattle.ll_why.specs.Names.{parted};
+ghost use Rattle.ll_why.specs.Names.{or_root, parted};
 ghost use Rattle.ll_why.specs.Told.{asked_line, node_text, path_on, seat_text};
 
 use crate::Asks;
@@ -18,7 +18,7 @@ use std::alloc::{AllocError, Global};
 
 // Returns the path that the word spells, or None for a word that is no path: it counts as the root.
 fn spelled(target: &Target) -> Option<&Path>
-    ensures { unwrap_or (option_map (λ p. p.now) result) [] ≡ path_of target.now }
+    ensures { or_root result ≡ path_of target.now }
 {
     match target {
         Target::Good(path) => Some(path),
@@ -28,7 +28,7 @@ fn spelled(target: &Target) -> Option<&Path>
 
 // Returns the call's first path. None means the root.
 fn first_path(call: &Call) -> Option<&Path>
-    ensures { unwrap_or (option_map (λ p. p.now) result) [] ≡ first_path call.now }
+    ensures { or_root result ≡ first_path call.now }
 {
     match targets_of(call) {
         Targets::No => None,
@@ -39,7 +39,7 @@ fn first_path(call: &Call) -> Option<&Path>
 
 // Returns the call's second path, or its first if it has only one. None means the root.
 fn second_path(call: &Call) -> Option<&Path>
-    ensures { unwrap_or (option_map (λ p. p.now) result) [] ≡ second_path call.now }
+    ensures { or_root result ≡ second_path call.now }
 {
     match targets_of(call) {
         Targets::No => None,
@@ -48,9 +48,9 @@ fn second_path(call: &Call) -> Option<&Path>
     }
 }
 
-// Returns the path of this `On`: its node's, or its directory's. None means the root.
-fn path_on(call: &Call, on: On) -> Option<&Path>
-    ensures { unwrap_or (option_map (λ p. p.now) result) [] ≡ path_on call.now on }
+/// Returns the path of this `On`: its node's, or its directory's. None means the root.
+pub(crate) fn path_on(call: &Call, on: On) -> Option<&Path>
+    ensures { or_root result ≡ path_on call.now on }
 {
     match on {
         On::Itself | On::Parent | On::Left => first_path(call),
@@ -70,8 +70,8 @@ fn chain_on(asks: &Asks, on: On) -> &[u64]
     }
 }
 
-// Returns the place that a denial names for it.
-fn place_on(on: On) -> Place
+/// Returns the place that a denial names for it.
+pub(crate) fn place_on(on: On) -> Place
     ensures { result ≡ place_on on }
 {
     match on {
@@ -81,8 +81,8 @@ fn place_on(on: On) -> Place
     }
 }
 
-// Returns the rights that are needed on it.
-fn set_on(demands: &Demands, on: On) -> Access
+/// Returns the rights that are needed on it.
+pub(crate) fn set_on(demands: &Demands, on: On) -> Access
     ensures { result.0 ≡ set_on demands.now on }
 {
     match on {
@@ -119,6 +119,20 @@ pub(crate) fn names_text(alloc: Global, path: &Path, count: usize) -> Result<Str
     Ok(text)
 }
 
+/// Returns the text of the node with this many of the path's names. None means the root. Errors: memory ran out.
+pub(crate) fn ancestor_text(
+    alloc: Global,
+    path: Option<&Path>,
+    count: usize,
+) -> Result<String, AllocError>
+    ensures { IfOk result (λ text. string_bytes text ≡ path_text (take count (or_root path.entry))) }
+{
+    match path {
+        Some(path) => names_text(alloc, path, count),
+        None => String::from_str(alloc, "/"),
+    }
+}
+
 /// Returns the text of the node with this many names of the path of this `On`.
 pub(crate) fn upper_text(
     alloc: Global,
@@ -128,10 +142,7 @@ pub(crate) fn upper_text(
 ) -> Result<String, AllocError>
     ensures { IfOk result (λ text. string_bytes text ≡ path_text (take count (path_on call.now on))) }
 {
-    match path_on(call, on) {
-        Some(path) => names_text(alloc, path, count),
-        None => String::from_str(alloc, "/"),
-    }
+    ancestor_text(alloc, path_on(call, on), count)
 }
 
 /// Returns the text of the part of the path whose inodes exist.

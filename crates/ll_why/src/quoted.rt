@@ -2,7 +2,7 @@
 
 ghost use Rattle.std.specs.Prelude.{◌≡◌, codes, map, IfOk, string_bytes};
 ghost use Rattle.ll_rights.specs.Access.{set_names};
-ghost use Rattle.ll_why.specs.Quoted.{json_names, json_string, quoted};
+ghost use Rattle.ll_why.specs.Quoted.{json_names, json_string, listed, quoted};
 
 use crate::text::{concat, joined};
 use ll_rights::{Access, Right};
@@ -36,4 +36,11 @@ pub fn json_names(alloc: Global, set: Access) -> Result<String, AllocError>
 {
     let names = names_of(alloc, set)?;
     joined(alloc, ", ", names.as_slice())
+}
+
+/// Returns the objects with commas between. Errors: memory ran out.
+pub(crate) fn listed(alloc: Global, objects: &[String]) -> Result<String, AllocError>
+    ensures { IfOk result (λ text. string_bytes text ≡ listed (map string_bytes objects.now)) }
+{
+    joined(alloc, ", ", objects)
 }

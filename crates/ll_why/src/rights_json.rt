@@ -3,10 +3,11 @@
 ghost use Rattle.std.specs.Prelude.{◌≡◌, ◌++◌, codes, map, IfOk, OnOk, string_bytes, take};
 ghost use Rattle.std.specs.List.{enumerate_from, flat_map, join_by};
 ghost use Rattle.ll_path.specs.Path.{path_text};
-ghost use Rattle.ll_why.specs.RightsJson.{grants_json, kind_json, new_json, node_json, nowhere_json, path_json};
-ghost use Rattle.ll_why.specs.RightsJson.{rule_json, ruled_json, there_json};
+ghost use Rattle.ll_why.specs.Names.{or_root};
+ghost use Rattle.ll_why.specs.RightsJson.{grants_fields, grants_json, kind_json, new_json, node_json, nowhere_json};
+ghost use Rattle.ll_why.specs.RightsJson.{path_json, profile_json, rule_json, ruled_json, there_json};
 
-use crate::paths::names_text;
+use crate::paths::ancestor_text;
 use crate::quoted::{json_names, json_string};
 use crate::text::{concat, joined};
 use crate::{Grants, PathRights, RightsAt, Ruled};
@@ -23,12 +24,11 @@ fn kind_json(alloc: Global, kind: Option<Kind>) -> Result<String, AllocError>
     }
 }
 
-// The rule on the node with this many of the path's names.
-fn rule_json(alloc: Global, path: &Path, place: usize, rights: Access) -> Result<String, AllocError>
-    ensures { IfOk result (λ text. string_bytes text ≡ rule_json (path_text (take place path.now)) rights.0) }
+/// Returns the rule on this node. Errors: memory ran out.
+pub(crate) fn rule_json(alloc: Global, node: &str, rights: Access) -> Result<String, AllocError>
+    ensures { IfOk result (λ text. string_bytes text ≡ rule_json node.now rights.0) }
 {
-    let node = names_text(alloc, path, place)?;
-    let node = json_string(alloc, node.as_str())?;
+    let node = json_string(alloc, node)?;
     let names = json_names(alloc, rights)?;
     concat(
         alloc,
@@ -42,28 +42,42 @@ fn rule_json(alloc: Global, path: &Path, place: usize, rights: Access) -> Result
     )
 }
 
+// The rule on the node with this many of the path's names. None means the root.
+fn placed_rule(
+    alloc: Global,
+    path: Option<&Path>,
+    place: usize,
+    rights: Access,
+) -> Result<String, AllocError>
+    ensures { IfOk result (λ text. string_bytes text
+        ≡ rule_json (path_text (take place (or_root path.entry))) rights.0) }
+{
+    let node = ancestor_text(alloc, path, place)?;
+    rule_json(alloc, node.as_str(), rights)
+}
+
 // Appends the rule, if it allows anything.
 fn push_rule(
     alloc: Global,
     texts: &mut Vec<String>,
-    path: &Path,
+    path: Option<&Path>,
     place: usize,
     ruled: Ruled,
 ) -> Result<(), AllocError>
     ensures { OnOk result (map string_bytes texts.new.items
-        ≡ map string_bytes texts.old.items ++ ruled_json path.now (place, ruled)) }
+        ≡ map string_bytes texts.old.items ++ ruled_json (or_root path.entry) (place, ruled)) }
 {
     if ruled.rights.0 == 0 {
         return Ok(());
     }
-    let text = rule_json(alloc, path, place, ruled.rights)?;
+    let text = placed_rule(alloc, path, place, ruled.rights)?;
     texts.push(text)?;
     Ok(())
 }
 
-fn rules_of(alloc: Global, path: &Path, rules: &[Ruled]) -> Result<Vec<String>, AllocError>
+fn rules_of(alloc: Global, path: Option<&Path>, rules: &[Ruled]) -> Result<Vec<String>, AllocError>
     ensures { IfOk result (λ texts. map string_bytes texts.items
-        ≡ flat_map (ruled_json path.now) (enumerate_from 0 rules.now)) }
+        ≡ flat_map (ruled_json (or_root path.entry)) (enumerate_from 0 rules.now)) }
 {
     let mut texts = Vec::new(alloc);
     for place in 0..rules.len() {
@@ -72,16 +86,21 @@ fn rules_of(alloc: Global, path: &Path, rules: &[Ruled]) -> Result<Vec<String>, 
     Ok(texts)
 }
 
-fn rules_json(alloc: Global, path: &Path, rules: &[Ruled]) -> Result<String, AllocError>
-    ensures { IfOk result (λ text. string_bytes text
-        ≡ join_by (λ t. t) (codes ", ") (flat_map (ruled_json path.now) (enumerate_from 0 rules.now))) }
+fn rules_json(alloc: Global, path: Option<&Path>, rules: &[Ruled]) -> Result<String, AllocError>
+    ensures { IfOk result (λ text. string_bytes text ≡ join_by (λ t. t) (codes ", ")
+        (flat_map (ruled_json (or_root path.entry)) (enumerate_from 0 rules.now))) }
 {
     let texts = rules_of(alloc, path, rules)?;
     joined(alloc, ", ", texts.as_slice())
 }
 
-fn grants_json(alloc: Global, path: &Path, grants: &Grants) -> Result<String, AllocError>
-    ensures { IfOk result (λ text. string_bytes text ≡ grants_json path.now grants.now) }
+/// Returns what a layer does on a path, without braces. None means the root. Errors: memory ran out.
+pub(crate) fn grants_fields(
+    alloc: Global,
+    path: Option<&Path>,
+    grants: &Grants,
+) -> Result<String, AllocError>
+    ensures { IfOk result (λ text. string_bytes text ≡ grants_fields (or_root path.entry) grants.now) }
 {
     let free = json_names(alloc, grants.free)?;
     let rules = rules_json(alloc, path, grants.ruled.as_slice())?;
@@ -89,15 +108,22 @@ fn grants_json(alloc: Global, path: &Path, grants: &Grants) -> Result<String, Al
     concat(
         alloc,
         &[
-            "{\"unrestricted\": [",
+            "\"unrestricted\": [",
             free.as_str(),
             "], \"rules\": [",
             rules.as_str(),
             "], \"missing\": [",
             missing.as_str(),
-            "]}",
+            "]",
         ],
     )
+}
+
+fn grants_json(alloc: Global, path: &Path, grants: &Grants) -> Result<String, AllocError>
+    ensures { IfOk result (λ text. string_bytes text ≡ grants_json path.now grants.now) }
+{
+    let fields = grants_fields(alloc, Some(path), grants)?;
+    concat(alloc, &["{", fields.as_str(), "}"])
 }
 
 fn layers_of(alloc: Global, path: &Path, layers: &[Grants]) -> Result<Vec<String>, AllocError>
@@ -172,7 +198,8 @@ fn nowhere_json(alloc: Global, kind: Option<Kind>) -> Result<String, AllocError>
     )
 }
 
-fn there_json(alloc: Global, path: &Path, told: &RightsAt) -> Result<String, AllocError>
+/// Returns what there is at the path, as members of an object.
+pub(crate) fn there_json(alloc: Global, path: &Path, told: &RightsAt) -> Result<String, AllocError>
     ensures { IfOk result (λ text. string_bytes text ≡ there_json path.now told.now) }
 {
     match told {
@@ -192,5 +219,31 @@ pub fn path_json(alloc: Global, path: &Path, told: &RightsAt) -> Result<String, 
     concat(
         alloc,
         &["{\"path\": ", name.as_str(), ", ", there.as_str(), "}\n"],
+    )
+}
+
+/// Returns the path's line of JSON, which begins with the profile that has the rights. Errors: memory ran out.
+pub(crate) fn profile_json(
+    alloc: Global,
+    profile: &str,
+    path: &Path,
+    told: &RightsAt,
+) -> Result<String, AllocError>
+    ensures { IfOk result (λ text. string_bytes text ≡ profile_json profile.now path.now told.now) }
+{
+    let profile = json_string(alloc, profile)?;
+    let name = json_string(alloc, path.as_str())?;
+    let there = there_json(alloc, path, told)?;
+    concat(
+        alloc,
+        &[
+            "{\"profile\": ",
+            profile.as_str(),
+            ", \"path\": ",
+            name.as_str(),
+            ", ",
+            there.as_str(),
+            "}\n",
+        ],
     )
 }

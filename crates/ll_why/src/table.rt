@@ -12,7 +12,7 @@ use ll_path::Path;
 use ll_rights::{Access, Kind};
 use std::alloc::{AllocError, Global};
 
-fn push_token(text: &mut String, token: &str) -> Result<(), AllocError>
+pub(crate) fn push_token(text: &mut String, token: &str) -> Result<(), AllocError>
     ensures { OnOk result (string_bytes text.new ≡ string_bytes text.old ++ behind (token.now ∷ [])) }
 {
     text.push_str(" ")?;
@@ -182,8 +182,8 @@ fn push_nowhere(text: &mut String, kind: Option<Kind>) -> Result<(), AllocError>
     push_token(text, kind_word(kind))
 }
 
-// Appends what there is at the path.
-fn push_told(
+/// Appends what there is at the path.
+pub(crate) fn push_told(
     alloc: Global,
     text: &mut String,
     path: &Path,

@@ -1,5 +1,4 @@
-use Rattle.std.proofs.Common.{ℕ, ◌-◌, List, [], ◌++◌, take, ap, sym, subst, ◌∙◌, string_bytes}
-use Rattle.std.proofs.lemmas.List.{append-nil}
+use Rattle.std.proofs.Common.{ℕ, ◌-◌, List, take, ap, sym, subst, ◌∙◌, string_bytes}
 use Rattle.std.proofs.lemmas.Result.{IfOk-weaker}
 use Rattle.ll_seq.specs.History.{MayStand, state_after}
 use Rattle.ll_seq.specs.State.{State}
@@ -29,9 +28,7 @@ returns c =
     let e = c.index-entries-number.result in
     let standing = c.in_ok-standing.standing in
     let told = c.in_ok-told.told in
-    let text = entry_text c.args.number e standing told in
-    let opening = c.as_str-2.result.now in
-    IfOk-weaker c.concat.result _ _ (λ whole is. record {
+    IfOk-weaker c.entry_text.result _ _ (λ whole is. record {
       entry = e;
       standing = standing;
       told = told;
@@ -45,7 +42,5 @@ returns c =
           (subst (λ (z : State). IsExplained c.rules-level.result.abi z e.client e.call told) c.in_ok-tree.ensures.tree
           c.in_ok-told.ensures);
       opened = c.in_ok-opening.ensures;
-      is = is
-          ∙ ap (λ (l : List ℕ). l ++ (opening ++ [])) (c.as_str.ensures.value ∙ c.in_ok-text.ensures)
-          ∙ ap (λ (l : List ℕ). text ++ l) (append-nil opening ∙ c.as_str-2.ensures.value);
-    }) c.concat.ensures
+      is = is ∙ ap (λ (l : List ℕ). entry_text c.args.style c.args.number e standing told l) c.as_str.ensures.value;
+    }) c.entry_text.ensures

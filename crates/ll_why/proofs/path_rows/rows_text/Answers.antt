@@ -1,4 +1,4 @@
-use Rattle.std.proofs.Common.{List, ap, subst, sym, string_bytes}
+use Rattle.std.proofs.Common.{List, subst, sym, string_bytes}
 use Rattle.std.proofs.lemmas.Bool.{eqb-false, eqb-true}
 use Rattle.std.proofs.lemmas.Result.{IfOk-weaker}
 use Rattle.ll_path.specs.Path.{Path}

@@ -2,6 +2,7 @@ use Rattle.std.proofs.Common.{◌≡◌, ◌+◌, ◌++◌, ◌∷◌, add-one, 
 use Rattle.std.specs.List.{enumerate_from, flat_map}
 use Rattle.std.proofs.lemmas.List.{append-nil, drop_all}
 use Rattle.ll_why.specs.declared.grants.Ruled.{Ruled}
+use Rattle.ll_why.specs.Names.{or_root}
 use Rattle.ll_why.specs.RightsJson.{ruled_json}
 use Rattle.ll_why.proofs.Growing.{came}
 use Rattle.ll_why.proofs.rights_json.rules_of.Goals as goal
@@ -14,7 +15,7 @@ unfolding none
 loop-place-preserved c =
     let rules = c.args.rules.now in
     let place = c.loop-place.place in
-    let told = ruled_json c.args.path.now in
+    let told = ruled_json (or_root c.args.path) in
     let texts = map string_bytes c.loop-place.texts.items in
     let rule : Ruled = get_or rules place none in
     let split : drop place rules ≡ rule ∷ drop (place + 1) rules =
@@ -28,7 +29,7 @@ pub returns : goal.returns
 returns c =
     let rules = c.args.rules.now in
     let place = c.loop-place.place in
-    let told = ruled_json c.args.path.now in
+    let told = ruled_json (or_root c.args.path) in
     let texts = map string_bytes c.loop-place.texts.items in
     sym (c.loop-place.invariant
     ∙ ap (λ l. texts ++ flat_map told (enumerate_from place l)) (drop_all place rules c.loop-place-test.false)

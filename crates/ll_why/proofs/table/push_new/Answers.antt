@@ -1,4 +1,4 @@
-use Rattle.std.proofs.Common.{◌≡◌, ◌++◌, [], ◌∷◌, codes, string_bytes}
+use Rattle.std.proofs.Common.{◌++◌, [], ◌∷◌, codes, string_bytes}
 use Rattle.ll_rights.specs.Access.{access_text}
 use Rattle.ll_why.specs.Table.{shown_tokens}
 use Rattle.ll_why.proofs.TokenTexts.{on_ok, two}

@@ -1,4 +1,4 @@
-use Rattle.std.proofs.Common.{◌≡◌, ◌++◌, [], ◌∷◌, ap, ◌∙◌, codes, string_bytes}
+use Rattle.std.proofs.Common.{◌++◌, [], ◌∷◌, ap, ◌∙◌, codes, string_bytes}
 use Rattle.ll_why.specs.Table.{behind, kind_word}
 use Rattle.ll_why.proofs.TokenTexts.{on_ok, two}
 use Rattle.ll_why.proofs.table.push_nowhere.Goals as goal

@@ -8,7 +8,7 @@ use Rattle.ll_seq.specs.declared.rules.Rules.{Rules}
 use Rattle.ll_audit.specs.Saved.{opened}
 use Rattle.ll_why.specs.Explained.{IsExplained}
 use Rattle.ll_why.specs.Opening.{opening_text}
-use Rattle.ll_why.proofs.opening.lines_of.Goals as goal
+use Rattle.ll_why.proofs.opening.text_on.Goals as goal
 
 pub returns : goal.returns
 returns c =
@@ -26,5 +26,5 @@ returns c =
           c.in_ok-tree.ensures.tree
           (subst (λ (call : Call). IsExplained c.rules-level.result.abi c.in_ok-tree.tree e.client call told) truncate
           c.in_ok-told.ensures));
-      is = is ∙ ap (λ (call : Call). opening_text (length o.upto.now) e call told) truncate;
+      is = is ∙ ap (λ (call : Call). opening_text c.args.style (length o.upto.now) e call told) truncate;
     }) c.opening_text.ensures
