@@ -48,7 +48,8 @@ module _ (Good : List Row → Type 0) (c : List Rule) (again : Bool) (keeps : (p
 
   reacts : (a : Rule) → Keeps Good a → (values : List Text) (h : Held) → react_fault c again a values h ≡ []
       → Good h.rows → Good (reacted c a values h).rows
-  reacts a keep values h e g = let parts = no_faults _ _ e in
+  reacts a keep values h e g =
+      let parts = no_faults (settle_fault c again h) (use_fault again a values (settled c h).rows) e in
       keep again values (settled c h).rows parts.1 (settles h parts.0 g)
 
   by_option : (a : Rule) → Keeps Good a → (v : Option Text) (h : Held) → option_fault c again a v h ≡ [] → Good h.rows
@@ -95,7 +96,9 @@ module _ (Good : List Row → Type 0) (c : List Rule) (again : Bool) (keeps : (p
           (or_else (react_fault c again a [] h) (fault (reacted c a [] h))) ≡ []
           → Good (cond b (option_met c a (attached_value rest) h) (onward (reacted c a [] h))).0.rows
       go true e' = by_option a keep (attached_value rest) h e' g
-      go false e' = let parts = no_faults _ _ e' in more (reacted c a [] h) parts.1 (reacts a keep [] h parts.0 g)
+      go false e' =
+          let parts = no_faults (react_fault c again a [] h) (fault (reacted c a [] h)) e' in
+          more (reacted c a [] h) parts.1 (reacts a keep [] h parts.0 g)
 
   by_character : (o : Option ℕ) (flags : Text) (skip : ℕ) (so_far : Outcome) (h : Held) (onward : Text → ℕ → Outcome
       → Held → Held × Outcome) (fault : Text → ℕ → Held → Kinds)

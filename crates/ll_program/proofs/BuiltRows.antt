@@ -133,7 +133,8 @@ schedule_built = with_built schedule.top
 
 abbrev pub rights_built : Shape
 rights_built = with_built rights.top
-    (placed paths ∷ filled (needed (codes "policy")) ∷ filled (needed (codes "profile")) ∷ filled nodes
+    (placed paths ∷ filled (needed (codes "policy")) ∷ filled (valued (codes "profile"))
+    ∷ filled (flag (codes "all-profiles")) ∷ filled (valued (codes "diff")) ∷ filled nodes
     ∷ filled (flag (codes "layers")) ∷ filled (valued (codes "as")) ∷ help_built ∷ [])
 
 abbrev pub check_built : Shape
@@ -157,8 +158,8 @@ export_built = with_built export.top
 
 abbrev pub why_built : Shape
 why_built = with_built why.top
-    (placed words ∷ filled (valued (codes "policy")) ∷ filled (valued (codes "profile")) ∷ filled nodes ∷ help_built
-    ∷ [])
+    (placed words ∷ filled (valued (codes "policy")) ∷ filled (valued (codes "profile")) ∷ filled nodes
+    ∷ filled (valued (codes "as")) ∷ help_built ∷ [])
 
 abbrev pub learn_built : Shape
 learn_built = with_built learn.top
@@ -412,10 +413,16 @@ rights_keep p a e = found_there (Keeps Good) p rights_built.rules a (
   (
     needed_keeps (codes "policy") refl,
     (
-      needed_keeps (codes "profile") refl,
+      valued_keeps (codes "profile") refl,
       (
-        nodes_keep,
-        (flag_keeps (codes "layers") refl, (valued_keeps (codes "as") refl, (help_keeps, tt))),
+        flag_keeps (codes "all-profiles") refl,
+        (
+          valued_keeps (codes "diff") refl,
+          (
+            nodes_keep,
+            (flag_keeps (codes "layers") refl, (valued_keeps (codes "as") refl, (help_keeps, tt))),
+          ),
+        ),
       ),
     ),
   ),
@@ -513,7 +520,10 @@ why_keeps p a e = found_there (Keeps Good) p why_built.rules a (
   several_keep (codes "WORD") true refl,
   (
     valued_keeps (codes "policy") refl,
-    (valued_keeps (codes "profile") refl, (nodes_keep, (help_keeps, tt))),
+    (
+      valued_keeps (codes "profile") refl,
+      (nodes_keep, (valued_keeps (codes "as") refl, (help_keeps, tt))),
+    ),
   ),
 ) e
 

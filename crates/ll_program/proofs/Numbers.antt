@@ -14,7 +14,7 @@ use Rattle.clap.proofs.ValueTestLemmas.{Accepts-accepts, accepts-Accepts}
 use Rattle.clap.specs.Matches.{matched_of, raw_values}
 use Rattle.clap.proofs.WalkLemmas.{both, first_value-rows, raw_values-rows}
 use Rattle.ll_program.specs.Options.{CheckOrder, ExportOrder, RightsOrder, RunOrder, ScheduleOrder, ServeOrder}
-use Rattle.ll_program.specs.Options.{LearnOrder, WhyOrder}
+use Rattle.ll_program.specs.Options.{LearnOrder, Scope, WhyOrder}
 use Rattle.ll_program.specs.Options.{number_in}
 use Rattle.ll_program.specs.declared.denied.Denied.{Denied}
 use Rattle.ll_program.specs.declared.report.AnswerForm.{AnswerForm}
@@ -126,17 +126,17 @@ together_scheduled path n most level picture from to strict =
     }) most) n) path
 
 -- the rights that are wanted, where each part is there
-abbrev pub together_rights : Option Text → Option Text → Option ℕ → List Text → Bool → Option AnswerForm
+abbrev pub together_rights : Option Text → Option ℕ → Option Scope → List Text → Bool → Option AnswerForm
     → Option RightsOrder
-together_rights file name n told layers form =
-    option_and_then (λ p. option_and_then (λ q. option_map (λ k. record {
+together_rights file n scope told layers form =
+    option_and_then (λ p. option_map (λ k. record {
       policy = p;
-      profile = q;
+      scope = scope;
       nodes = k;
       paths = told;
       layers = layers;
       form = form;
-    }) n) name) file
+    }) n) file
 
 -- the same of a check
 abbrev pub together_checked : Option (List Text) → Option ℕ → Option ℕ → Option Text → Option Text → Bool → Bool
@@ -191,9 +191,16 @@ together_exported file name form root told follow deny exact effort files =
     }) name) file
 
 -- the same of a why
-abbrev pub together_why : Option (List Text) → Option ℕ → Option Text → Option Text → Option WhyOrder
-together_why told n policy profile =
-    option_and_then (λ p. option_map (λ k. record { words = p; policy = policy; profile = profile; nodes = k }) n) told
+abbrev pub together_why : Option (List Text) → Option ℕ → Option Text → Option Text → Option AnswerForm
+    → Option WhyOrder
+together_why told n policy profile form =
+    option_and_then (λ p. option_map (λ k. record {
+      words = p;
+      policy = policy;
+      profile = profile;
+      nodes = k;
+      form = form;
+    }) n) told
 
 -- the same of a learning
 abbrev pub together_learned : (files beneath : List Text) → (policy history name never : Option Text)
@@ -221,10 +228,10 @@ pub whole_schedule : (p : Option Text) (n m l : Option ℕ) (q : Option Text) (i
     → is_some (together_scheduled p n m l q i j s) ≡ true
 whole_schedule p n m l q i j s path nodes most e f g = rw (e, f, g) refl
 
-pub whole_rights : (p q : Option Text) (n : Option ℕ) (told : List Text) (layers : Bool) (form : Option AnswerForm)
-    (file name : Text) (nodes : ℕ) → p ≡ Some file → q ≡ Some name → n ≡ Some nodes
-    → is_some (together_rights p q n told layers form) ≡ true
-whole_rights p q n told layers form file name nodes e f g = rw (e, f, g) refl
+pub whole_rights : (p : Option Text) (n : Option ℕ) (scope : Option Scope) (told : List Text) (layers : Bool)
+    (form : Option AnswerForm) (file : Text) (nodes : ℕ) → p ≡ Some file → n ≡ Some nodes
+    → is_some (together_rights p n scope told layers form) ≡ true
+whole_rights p n scope told layers form file nodes e f = rw (e, f) refl
 
 pub whole_check : (p : Option (List Text)) (n l : Option ℕ) (q r : Option Text) (s t : Bool) (u : Option ReportForm)
     (paths : List Text) (nodes : ℕ) → p ≡ Some paths → n ≡ Some nodes
@@ -242,10 +249,10 @@ pub whole_export : (p q : Option Text) (form : Option Form) (root : Option Text)
     → is_some (together_exported p q form root told follow deny exact effort files) ≡ true
 whole_export p q form root told follow deny exact effort files file name e f = rw (e, f) refl
 
-pub whole_why : (p : Option (List Text)) (n : Option ℕ) (q r : Option Text) (told : List Text) (nodes : ℕ)
-    → p ≡ Some told → n ≡ Some nodes
-    → is_some (together_why p n q r) ≡ true
-whole_why p n q r told nodes e f = rw (e, f) refl
+pub whole_why : (p : Option (List Text)) (n : Option ℕ) (q r : Option Text) (form : Option AnswerForm)
+    (told : List Text) (nodes : ℕ) → p ≡ Some told → n ≡ Some nodes
+    → is_some (together_why p n q r form) ≡ true
+whole_why p n q r form told nodes e f = rw (e, f) refl
 
 pub whole_learn : (files beneath : List Text) (policy history name never : Option Text) (client most n : Option ℕ)
     (nodes : ℕ) → n ≡ Some nodes

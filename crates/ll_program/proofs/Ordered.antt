@@ -189,8 +189,22 @@ schedule_ends = ends_in schedule_built schedule_keeps
     (tt, (nodes_default, (tt, (history_default, (tt, (tt, (tt, (flag_default (codes "strict") refl, (tt, tt)))))))))
 
 rights_ends : (rest : List Text) → level_fault rights_built [] nothing_held rest false [] ≡ [] → Ends rights_built rest
-rights_ends = ends_in rights_built rights_keep
-    (tt, (tt, (tt, (nodes_default, (flag_default (codes "layers") refl, (tt, (tt, tt)))))))
+rights_ends = ends_in rights_built rights_keep (
+  tt,
+  (
+    tt,
+    (
+      tt,
+      (
+        flag_default (codes "all-profiles") refl,
+        (
+          tt,
+          (nodes_default, (flag_default (codes "layers") refl, (tt, (tt, tt)))),
+        ),
+      ),
+    ),
+  ),
+)
 
 check_ends : (rest : List Text) → level_fault check_built [] nothing_held rest false [] ≡ [] → Ends check_built rest
 check_ends = ends_in check_built check_keeps (
@@ -262,7 +276,7 @@ export_ends = ends_in export_built export_keeps (
 )
 
 why_ends : (rest : List Text) → level_fault why_built [] nothing_held rest false [] ≡ [] → Ends why_built rest
-why_ends = ends_in why_built why_keeps (tt, (tt, (tt, (nodes_default, (tt, tt)))))
+why_ends = ends_in why_built why_keeps (tt, (tt, (tt, (nodes_default, (tt, (tt, tt))))))
 
 learn_ends : (rest : List Text) → level_fault learn_built [] nothing_held rest false [] ≡ [] → Ends learn_built rest
 learn_ends = ends_in learn_built learn_keeps
@@ -300,11 +314,9 @@ rights_wanted : (rest : List Text) → level_fault rights_built [] nothing_held 
 rights_wanted rest e =
     let rows = rows_after rights_built.rules [] rest in
     let ends = rights_ends rest e in
-    let told = both_given (is_given (codes "policy") rows) (is_given (codes "profile") rows) _ ends.2 in
-    let policy = text_of rows ends.0 (codes "policy") told.0 in
-    let profile = text_of rows ends.0 (codes "profile") told.1 in
-    let n = nodes_of rows ends.0 (ends.1.1.1.1.0 tt) in
-    whole_rights _ _ _ _ _ _ policy.0 profile.0 n.0 policy.1 profile.1 n.1
+    let policy = text_of rows ends.0 (codes "policy") (given (is_given (codes "policy") rows) _ ends.2) in
+    let n = nodes_of rows ends.0 (ends.1.1.1.1.1.1.0 tt) in
+    whole_rights _ _ _ _ _ _ policy.0 n.0 policy.1 n.1
 
 check_wanted : (rest : List Text) → level_fault check_built [] nothing_held rest false [] ≡ []
     → is_some (check_order (rows_after check_built.rules [] rest)) ≡ true
@@ -345,7 +357,7 @@ why_wanted rest e =
     let ends = why_ends rest e in
     let told = texts_of rows ends.0 (codes "WORD") (given (is_given (codes "WORD") rows) _ ends.2) in
     let n = nodes_of rows ends.0 (ends.1.1.1.1.0 tt) in
-    whole_why _ _ _ _ told.0 n.0 told.1 n.1
+    whole_why _ _ _ _ _ told.0 n.0 told.1 n.1
 
 learn_wanted : (rest : List Text) → level_fault learn_built [] nothing_held rest false [] ≡ []
     → is_some (learn_order (rows_after learn_built.rules [] rest)) ≡ true

@@ -79,8 +79,8 @@ needed name = record (valued name) { required = true }
 
 abbrev pub rights : App
 rights = fold with_rule (new_app (codes "rights"))
-    (paths ∷ needed (codes "policy") ∷ needed (codes "profile") ∷ nodes ∷ flag (codes "layers")
-    ∷ valued (codes "as") ∷ [])
+    (paths ∷ needed (codes "policy") ∷ valued (codes "profile") ∷ flag (codes "all-profiles")
+    ∷ valued (codes "diff") ∷ nodes ∷ flag (codes "layers") ∷ valued (codes "as") ∷ [])
 
 -- one file or more
 abbrev pub files : Rule
@@ -154,7 +154,8 @@ words = record (new_rule (codes "WORD")) {
 }
 
 abbrev pub why : App
-why = fold with_rule (new_app (codes "why")) (words ∷ valued (codes "policy") ∷ valued (codes "profile") ∷ nodes ∷ [])
+why = fold with_rule (new_app (codes "why"))
+    (words ∷ valued (codes "policy") ∷ valued (codes "profile") ∷ nodes ∷ valued (codes "as") ∷ [])
 
 -- files of checks, if any
 abbrev pub lessons : Rule

@@ -28,7 +28,7 @@ use Rattle.ll_program.specs.declared.failure.Failure.{Failure}
 use Rattle.ll_program.specs.declared.failure.Failure.TheVariants.{CommandLine, Policy, Opening, File, Output, Socket}
 use Rattle.ll_program.specs.declared.failure.Failure.TheVariants.{NoMemory}
 use Rattle.ll_program.specs.declared.conclusion.Conclusion.{Conclusion}
-use Rattle.ll_program.specs.declared.conclusion.Conclusion.TheVariants.{Checked, Done, Judged, Stopped}
+use Rattle.ll_program.specs.declared.conclusion.Conclusion.TheVariants.{Checked, Differs, Done, Judged, Stopped}
 use Rattle.ll_program.specs.declared.checked.Checked.TheVariants as checked
 
 abbrev pub failure_in_session : SessionFault → Failure
@@ -70,8 +70,8 @@ failure_at audit.Read = File
 failure_at audit.Write = Output
 failure_at audit.NoMemory = NoMemory
 
--- 3 only for a history that isn't legal, for checks of which one fails, and for a strict run or schedule that ends
--- early
+-- 3 only for rights that differ, for a history that isn't legal, for checks of which one fails, and for a strict run or
+-- schedule that ends early
 abbrev pub status_by : Conclusion → ℕ
 status_by Done = 0
 status_by (Stopped stopped) = 3
@@ -81,6 +81,7 @@ status_by (Judged (BadLine line)) = 3
 status_by (Checked checked.Passed) = 0
 status_by (Checked checked.Failed) = 3
 status_by (Checked checked.BadLine) = 2
+status_by Differs = 3
 
 abbrev pub status_at : Result Conclusion Failure → ℕ
 status_at (Ok conclusion) = status_by conclusion
@@ -144,6 +145,7 @@ EndsAudit text out out' (Ok (Stopped stopped)) = ⊥
 EndsAudit text out out' (Ok (Judged verdict)) =
     IfSome text (λ bytes. Judges (pieces bytes) verdict) × Appends out out' (verdict_line verdict)
 EndsAudit text out out' (Ok (Checked end)) = ⊥
+EndsAudit text out out' (Ok Differs) = ⊥
 EndsAudit text out out' (Err failure) = FailsAudit text out out' failure
 
 -- why nothing is begun: the file that is to be written is one that is used otherwise, or memory runs out
@@ -169,4 +171,5 @@ EndsExport is_checked (Ok Done) = ⊤
 EndsExport is_checked (Ok (Stopped stopped)) = ⊥
 EndsExport is_checked (Ok (Judged verdict)) = ⊥
 EndsExport is_checked (Ok (Checked end)) = (is_checked ≡ true) × (end ≢ checked.Passed)
+EndsExport is_checked (Ok Differs) = ⊥
 EndsExport is_checked (Err failure) = (is_checked ≡ true) ⊎ IsOfExport failure

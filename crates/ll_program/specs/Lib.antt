@@ -1,9 +1,11 @@
 pub mod Apps
 pub mod Comments
+pub mod Forms
 pub mod Options
 pub mod Failure
 pub mod Learn
 pub mod Paths
 pub mod Policy
+pub mod Rights
 pub mod Sources
 pub mod Stopped

@@ -2,7 +2,7 @@
 use Rattle.std.specs.Prelude.{bytes_eq, ◌==◌, ◌≡◌, ◌⊎◌, ℕ, List, [], ◌∷◌, Option, Some, None, is_some, option_and_then}
 use Rattle.std.specs.Prelude.{option_map, codes, Bool, true, false, not, map, unwrap_or, ◌&&◌, if◌then◌else◌, is_none}
 use Rattle.std.specs.Prelude.{length, nat_eq, nat_le, ◌||◌}
-use Rattle.std.specs.List.{list_all, slice_split, starts_with}
+use Rattle.std.specs.List.{list_all, starts_with}
 use Rattle.std.specs.Option.{option_map_or}
 use Rattle.std.specs.Str.Parse.{digits_value, without_leading_plus}
 use Rattle.clap.specs.declared.error.kind.ErrorKind.TheVariants.{DisplayHelp, DisplayVersion}
@@ -11,17 +11,13 @@ use Rattle.clap.specs.ValueTests.{accepts}
 use Rattle.clap.specs.declared.builder.value_parser.ValueParser.{ValueParser}
 use Rattle.ll_program.specs.declared.options.RunOptions.{RunOptions}
 use Rattle.ll_program.specs.declared.options.ScheduleOptions.{ScheduleOptions}
-use Rattle.ll_program.specs.declared.rights.RightsOptions.{RightsOptions}
 use Rattle.ll_program.specs.declared.options.CheckOptions.{CheckOptions}
 use Rattle.ll_program.specs.declared.serve.ServeOptions.{ServeOptions}
 use Rattle.ll_program.specs.declared.denied.Denied.{Denied}
 use Rattle.ll_program.specs.declared.report.AnswerForm.{AnswerForm}
-use Rattle.ll_program.specs.declared.report.AnswerForm.TheVariants as answers
 use Rattle.ll_program.specs.declared.report.ReportForm.{ReportForm}
-use Rattle.ll_program.specs.declared.report.ReportForm.TheVariants.{Tap, Junit}
 use Rattle.ll_program.specs.declared.report.ReportForm.TheVariants as reports
 use Rattle.ll_program.specs.declared.export.Form.{Form}
-use Rattle.ll_program.specs.declared.export.Form.TheVariants.{C, Json}
 use Rattle.ll_program.specs.declared.export.ExportOptions.{ExportOptions}
 use Rattle.ll_program.specs.declared.why.Question.{Question}
 use Rattle.ll_program.specs.declared.why.Question.TheVariants.{Command, Entry}
@@ -37,6 +33,10 @@ pub use Rattle.ll_program.specs.Apps.{landtree, learn, lessons, levels, line_num
 pub use Rattle.ll_program.specs.Apps.{node_numbers, nodes, paths, port, ports, repeated, rights, room}
 pub use Rattle.ll_program.specs.Apps.{room_megabytes, rule_numbers, run, saved, schedule, script, serve, valued}
 pub use Rattle.ll_program.specs.Apps.{why, words, worker_numbers, workers}
+pub use Rattle.ll_program.specs.Rights.{RightsOrder, Scope, fits_rights, of_all, of_difference, of_profile, rights_in}
+pub use Rattle.ll_program.specs.Rights.{scope_by, scope_fits, scope_of}
+pub use Rattle.ll_program.specs.Forms.{answer_form_by, denied_all, denied_by, denied_of, denied_too, form_of}
+pub use Rattle.ll_program.specs.Forms.{nothing_denied, report_form_by, report_form_of}
 
 pub record RunOrder : Type 0 where
   pub script : Text
@@ -58,14 +58,6 @@ pub record ScheduleOrder : Type 0 where
   pub from : Option ℕ
   pub to : Option ℕ
   pub strict : Bool
-
-pub record RightsOrder : Type 0 where
-  pub policy : Text
-  pub profile : Text
-  pub nodes : ℕ
-  pub paths : List Text
-  pub layers : Bool
-  pub form : Option AnswerForm
 
 pub record CheckOrder : Type 0 where
   pub files : List Text
@@ -108,6 +100,7 @@ pub record WhyOrder : Type 0 where
   pub policy : Option Text
   pub profile : Option Text
   pub nodes : ℕ
+  pub form : Option AnswerForm
 
 pub record LearnOrder : Type 0 where
   pub files : List Text
@@ -167,17 +160,6 @@ scheduled_in o =
       strict = o.strict;
     }
 
-abbrev pub rights_in : RightsOptions → RightsOrder
-rights_in o =
-    record {
-      policy = o.policy.now;
-      profile = o.profile.now;
-      nodes = o.nodes;
-      paths = map (λ t. t.now) o.paths.items;
-      layers = o.layers;
-      form = o.form;
-    }
-
 abbrev pub checked_in : CheckOptions → CheckOrder
 checked_in o =
     let text = option_map (λ t. t.now) in
@@ -228,7 +210,13 @@ exported_in o =
 abbrev pub why_in : WhyOptions → WhyOrder
 why_in o =
     let text = option_map (λ t. t.now) in
-    record { words = map (λ t. t.now) o.words.items; policy = text o.policy; profile = text o.profile; nodes = o.nodes }
+    record {
+      words = map (λ t. t.now) o.words.items;
+      policy = text o.policy;
+      profile = text o.profile;
+      nodes = o.nodes;
+      form = o.form;
+    }
 
 abbrev pub learn_in : LearnOptions → LearnOrder
 learn_in o =
@@ -336,37 +324,19 @@ schedule_order rows =
     (number_of (codes "nodes") node_numbers rows))
     (first_of (codes "FILE") rows)
 
--- the form of answers with this name; without one, text
-abbrev pub answer_form_by : Option Text → Option AnswerForm
-answer_form_by (Some word) = if bytes_eq word (codes "json") then Some answers.Json else None
-answer_form_by None = Some answers.Text
-
 abbrev pub rights_order : List Row → Option RightsOrder
 rights_order rows =
-    option_and_then (λ file. option_and_then (λ name. option_map (λ n. record {
+    option_and_then (λ file. option_map (λ n. record {
       policy = file;
-      profile = name;
+      scope = scope_by (first_of (codes "profile") rows) (is_set (codes "all-profiles") rows)
+          (first_of (codes "diff") rows);
       nodes = n;
       paths = unwrap_or (all_of (codes "PATH") rows) [];
       layers = is_set (codes "layers") rows;
       form = answer_form_by (first_of (codes "as") rows);
     })
     (number_of (codes "nodes") node_numbers rows))
-    (first_of (codes "profile") rows))
     (first_of (codes "policy") rows)
-
--- the form of reports with this name
-abbrev pub report_form_of : Text → Option ReportForm
-report_form_of word =
-    if bytes_eq word (codes "tap") then Some Tap
-    else if bytes_eq word (codes "junit") then Some Junit
-    else if bytes_eq word (codes "json") then Some reports.Json
-    else None
-
--- the form with this name; without one, text
-abbrev pub report_form_by : Option Text → Option ReportForm
-report_form_by (Some word) = report_form_of word
-report_form_by None = Some reports.Text
 
 abbrev pub check_order : List Row → Option CheckOrder
 check_order rows =
@@ -407,35 +377,6 @@ serve_order rows =
     (number_of (codes "workers") worker_numbers rows))
     (number_of (codes "port") ports rows)
 
--- the form with this name
-abbrev pub form_of : Text → Option Form
-form_of word =
-    if bytes_eq word (codes "c") then Some C else if bytes_eq word (codes "json") then Some Json else None
-
-abbrev pub nothing_denied : Denied
-nothing_denied = record { tcp = false; ioctl_dev = false; signal = false; abstract_unix_socket = false }
-
--- also denies what the word names
-abbrev pub denied_too : Denied → Text → Option Denied
-denied_too denied word =
-    if bytes_eq word (codes "tcp") then Some (record denied { tcp = true })
-    else if bytes_eq word (codes "ioctl_dev") then Some (record denied { ioctl_dev = true })
-    else if bytes_eq word (codes "signal") then Some (record denied { signal = true })
-    else if bytes_eq word (codes "abstract_unix_socket") then Some (record denied { abstract_unix_socket = true })
-    else None
-
-abbrev pub denied_all : Denied → List Text → Option Denied
-denied_all denied [] = Some denied
-denied_all denied (word ∷ words) = option_and_then (λ d. denied_all d words) (denied_too denied word)
-
--- the list's words are separated by commas (44), and each names something
-abbrev pub denied_by : Text → Option Denied
-denied_by list = denied_all nothing_denied (slice_split (λ b. b == 44) list)
-
-abbrev pub denied_of : Option Text → Option Denied
-denied_of None = Some nothing_denied
-denied_of (Some list) = denied_by list
-
 abbrev pub export_order : List Row → Option ExportOrder
 export_order rows =
     option_and_then (λ file. option_map (λ name. record {
@@ -460,6 +401,7 @@ why_order rows =
       policy = first_of (codes "policy") rows;
       profile = first_of (codes "profile") rows;
       nodes = n;
+      form = answer_form_by (first_of (codes "as") rows);
     })
     (number_of (codes "nodes") node_numbers rows))
     (all_of (codes "WORD") rows)
@@ -525,10 +467,6 @@ may_be_drawn None from to = is_none from && is_none to
 abbrev pub fits_schedule : ScheduleOrder → Bool
 fits_schedule o = not (names_input o.picture (file_of o.file)) && may_be_drawn o.picture o.from o.to
 
--- the form is known
-abbrev pub fits_rights : RightsOrder → Bool
-fits_rights o = is_some o.form
-
 -- whether a report's form goes with these wishes: only a text has fewer tests or more
 abbrev pub fits_report : Option ReportForm → (quiet verbose : Bool) → Bool
 fits_report None quiet verbose = false
@@ -583,8 +521,9 @@ asked_in told policy profile = None
 abbrev pub asked_by : WhyOrder → Option Asked
 asked_by o = asked_in o.words o.policy o.profile
 
+-- the words ask for something, in a known form
 abbrev pub fits_why : WhyOrder → Bool
-fits_why o = is_some (asked_by o)
+fits_why o = is_some (asked_by o) && is_some o.form
 
 -- words with these faults end well: there is none, or help or the version is asked for
 abbrev pub EndsWell : Kinds → Type 0

@@ -20,7 +20,7 @@ use Rattle.ll_session.specs.declared.fault.RunFault.{RunFault}
 use Rattle.ll_session.specs.declared.setup.Setup.{Setup}
 use Rattle.ll_session.specs.declared.stop.Stop.{Stop}
 use Rattle.ll_program.specs.declared.conclusion.Conclusion.{Conclusion}
-use Rattle.ll_program.specs.declared.conclusion.Conclusion.TheVariants.{Checked, Done, Judged, Stopped}
+use Rattle.ll_program.specs.declared.conclusion.Conclusion.TheVariants.{Checked, Differs, Done, Judged, Stopped}
 use Rattle.ll_program.specs.Failure.{failure_of, IsOfBeginning, IsOfSaving, stop_line}
 use Rattle.ll_program.specs.Sources.{named, text_in}
 use Rattle.ll_wire.specs.declared.header.Header.{Header}
@@ -93,6 +93,7 @@ IsConcluded script (Some stop) (Stopped stopped) = string_bytes stopped.line ≡
 IsConcluded script (Some stop) Done = ⊥
 IsConcluded script (Some stop) (Judged verdict) = ⊥
 IsConcluded script (Some stop) (Checked end) = ⊥
+IsConcluded script (Some stop) Differs = ⊥
 
 -- what a run with this setup, which was made to its end, has read of the script and written
 abbrev pub HasRun : (strict : Bool) → Setup → (script script' out out' : Option (List ℕ)) → Option Stop → List Entry

@@ -7,11 +7,12 @@ ghost use Rattle.clap.specs.Words.{App, app_of, new_app, new_rule, rule_of, with
 ghost use Rattle.clap.specs.declared.builder.command.Command.TheViews.{out-Command as fields_of};
 ghost use Rattle.clap.specs.declared.builder.value_parser.ValueParser.TheVariants.{Unsigned};
 ghost use Rattle.ll_program.specs.Options.{abi, audit, check, connections, export, flag, history};
-ghost use Rattle.ll_program.specs.Options.{idle, landtree, line_number, nodes, port, repeated, rights, room};
+ghost use Rattle.ll_program.specs.Options.{idle, landtree, line_number, nodes, port, repeated, room};
 ghost use Rattle.ll_program.specs.Options.{run, schedule, serve, valued, why, workers};
 
 use crate::learn::learn_command;
 use crate::options::LINES;
+use crate::rights::rights_command;
 use crate::serve::{CONNECTIONS, IDLE_SECONDS, PORTS, ROOM_MEGABYTES, WORKERS};
 use clap::{Arg, ArgAction, Command, value_parser};
 use ll_rights::limits::{HISTORY_ENTRIES, TREE_NODES};
@@ -49,7 +50,7 @@ pub(crate) fn numbered<'a>(
 }
 
 // An option without a value.
-fn flag<'a>(alloc: Global, name: &'a str, help: &'a str) -> Arg<'a>
+pub(crate) fn flag<'a>(alloc: Global, name: &'a str, help: &'a str) -> Arg<'a>
     ensures rule { rule_of result ≡ flag name.entry.now }
     ensures local { result.global ≡ false }
 {
@@ -124,7 +125,7 @@ pub(crate) fn policy_option<'a>(alloc: Global) -> Arg<'a>
     )
 }
 
-fn profile_option<'a>(alloc: Global) -> Arg<'a>
+pub(crate) fn profile_option<'a>(alloc: Global) -> Arg<'a>
     ensures rule { rule_of result ≡ valued (codes "profile") }
     ensures local { result.global ≡ false }
 {
@@ -270,38 +271,6 @@ fn schedule_command<'a>(alloc: Global) -> Result<Command<'a>, AllocError>
         "Makes steps of many clients' calls: one step per line in, one outcome per line out",
         "Example: landtree schedule race.schedule --picture race.svg{n}\
          --explain, or a terminal, adds reasons to a fault",
-        arguments,
-    )
-}
-
-fn rights_command<'a>(alloc: Global) -> Result<Command<'a>, AllocError>
-    ensures app { IfOk result (λ command. app_of command ≡ rights) }
-    ensures local { IfOk result (λ command. (fields_of command).has_globals ≡ false) }
-{
-    let paths = Arg::new(alloc, "PATH").help("A path; where there is none, the policy's nodes");
-    let arguments = vec![in alloc;
-        one_or_more(paths),
-        policy_option(alloc).required(true),
-        profile_option(alloc).required(true),
-        nodes_option(alloc),
-        flag(
-            alloc,
-            "layers",
-            "Add a column for each layer: what it grants, by the rule on which directory",
-        ),
-        valued(
-            alloc,
-            "as",
-            "FORM",
-            "Print an object for another program on each line: json",
-        ),
-    ]?;
-    command_of(
-        alloc,
-        "rights",
-        "Lists the rights that all layers of a profile grant on paths",
-        "Example: landtree rights --policy build.toml --profile build /src/main.c{n}\
-         --terse leaves out the reasons of a fault",
         arguments,
     )
 }
@@ -541,6 +510,12 @@ fn why_command<'a>(alloc: Global) -> Result<Command<'a>, AllocError>
         policy_option(alloc),
         profile_option(alloc),
         nodes_option(alloc),
+        valued(
+            alloc,
+            "as",
+            "FORM",
+            "Print an object for another program on each line: json",
+        ),
     ]?;
     command_of(
         alloc,

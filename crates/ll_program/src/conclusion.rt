@@ -17,6 +17,8 @@ pub enum Conclusion {
     Judged(Verdict),
     /// Files were checked, or one of them has a bad line.
     Checked(Checked),
+    /// The rights that two policies grant were compared, and differ.
+    Differs,
 }
 
 impl Conclusion {
@@ -31,6 +33,7 @@ impl Conclusion {
             Conclusion::Checked(Checked::Passed) => 0,
             Conclusion::Checked(Checked::Failed) => 3,
             Conclusion::Checked(Checked::BadLine) => 2,
+            Conclusion::Differs => 3,
         }
     }
 }

@@ -47,7 +47,7 @@ pub use paths::paths_of;
 pub use policy::{policy_of, setup_of};
 pub use program::{Recorded, audit, audit_over, begin_record, header_of, run, save_history};
 pub use report::{AnswerForm, ReportForm};
-pub use rights::RightsOptions;
+pub use rights::{OldPolicy, RightsOptions, RightsScope};
 pub use serve::ServeOptions;
 pub use shown::Shown;
 pub use standard::Standard;

@@ -40,7 +40,7 @@ impl ReportForm {
     }
 }
 
-/// The form of an answer of `rights`.
+/// The form of an answer of `rights` or `why`.
 #[derive(Clone, Copy, Debug, PartialEq, Eq)]
 pub enum AnswerForm {
     /// Lines of text.

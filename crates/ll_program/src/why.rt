@@ -3,6 +3,7 @@
 ghost use Rattle.std.specs.Prelude.{◌≡◌, ◌≤◌, codes, map, option_map, IfOk};
 ghost use Rattle.ll_rights.specs.declared.limits.TheConstants.{HISTORY_ENTRIES, TREE_NODES};
 
+use crate::report::AnswerForm;
 use crate::values::{number_in, number_of};
 use clap::ArgMatches;
 use ll_rights::limits::{HISTORY_ENTRIES, TREE_NODES};
@@ -28,13 +29,15 @@ pub enum Question<'a, 'w> {
 }
 
 /// The options of `why`: the words, which are a history and an entry's number, or commands, of which the last is
-/// explained; for commands the policy file and the profile; and the limit of live nodes.
+/// explained; for commands the policy file and the profile; the limit of live nodes; and the form of the explanation.
 #[derive(Drop)]
 pub struct WhyOptions<'a> {
     pub words: Vec<&'a str>,
     pub policy: Option<&'a str>,
     pub profile: Option<&'a str>,
     pub nodes: usize,
+    /// None if its word names none.
+    pub form: Option<AnswerForm>,
     ghost some: { 1 ≤ nodes },
     ghost most: { nodes ≤ TREE_NODES },
 }
@@ -60,11 +63,13 @@ impl<'a> WhyOptions<'a> {
         let words = Vec::from_slice(alloc, words)?;
         let policy = why.get_str("policy");
         let profile = why.get_str("profile");
+        let form = AnswerForm::by_word(why.get_str("as"));
         Ok(Some(WhyOptions {
             words,
             policy,
             profile,
             nodes: nodes as usize,
+            form,
         }))
     }
 
@@ -90,10 +95,11 @@ impl<'a> WhyOptions<'a> {
         }
     }
 
-    /// Reports whether the options fit together: a history and a number alone, or commands with a policy and a profile.
+    /// Reports whether the options fit together, a history and a number alone, or commands with a policy and a profile;
+    /// and whether the form is known.
     pub fn fit(&self) -> bool
         ensures { result ≡ fits_why (why_in self.now) }
     {
-        self.question().is_some()
+        self.question().is_some() && self.form.is_some()
     }
 }

@@ -11,7 +11,8 @@ returns-clause-app c =
     ∙ ap₂ ◌∷◌ (c.one_or_more.ensures.rule ∙ ap several c.demanded-words.ensures.rule)
     (ap₂ ◌∷◌ c.policy_option.ensures.rule
     (ap₂ ◌∷◌ c.profile_option.ensures.rule
-    (ap₂ ◌∷◌ c.nodes_option.ensures.rule refl))))
+    (ap₂ ◌∷◌ c.nodes_option.ensures.rule
+    (ap₂ ◌∷◌ c.valued.ensures.rule refl)))))
     c.command_of.ensures.app
 
 pub command_of-requires : goal.command_of-requires
@@ -22,7 +23,7 @@ command_of-requires c =
         c.policy_option.ensures.local,
         (
           c.profile_option.ensures.local,
-          (c.nodes_option.ensures.local, tt),
+          (c.nodes_option.ensures.local, (c.valued.ensures.local, tt)),
         ),
       ),
     )

@@ -2,7 +2,7 @@ use Rattle.std.proofs.Common.{IfOk, List, ap, ap₂, codes, map, refl, subst, sy
 use Rattle.clap.specs.Words.{Rule, app_of, new_app, rule_of, with_rule}
 use Rattle.clap.specs.declared.builder.arg.Arg.{Arg}
 use Rattle.ll_program.proofs.Added.{AreLocal, must, several}
-use Rattle.ll_program.proofs.command.rights_command.Goals as goal
+use Rattle.ll_program.proofs.rights.rights_command.Goals as goal
 
 pub returns-clause-app : goal.returns-clause-app
 returns-clause-app c =
@@ -11,10 +11,12 @@ returns-clause-app c =
     (ap (map rule_of) c.in_ok-arguments.ensures.items
     ∙ ap₂ ◌∷◌ (c.one_or_more.ensures.rule ∙ ap several (ap rule_of c.help-paths.ensures ∙ c.new.ensures.rule))
     (ap₂ ◌∷◌ (ap rule_of c.required.ensures ∙ ap must c.policy_option.ensures.rule)
-    (ap₂ ◌∷◌ (ap rule_of c.required-2.ensures ∙ ap must c.profile_option.ensures.rule)
-    (ap₂ ◌∷◌ c.nodes_option.ensures.rule
+    (ap₂ ◌∷◌ c.profile_option.ensures.rule
     (ap₂ ◌∷◌ c.flag.ensures.rule
-    (ap₂ ◌∷◌ c.valued.ensures.rule refl))))))
+    (ap₂ ◌∷◌ c.valued.ensures.rule
+    (ap₂ ◌∷◌ c.nodes_option.ensures.rule
+    (ap₂ ◌∷◌ c.flag-2.ensures.rule
+    (ap₂ ◌∷◌ c.valued-2.ensures.rule refl))))))))
     c.command_of.ensures.app
 
 pub command_of-requires : goal.command_of-requires
@@ -24,10 +26,16 @@ command_of-requires c =
       (
         ap (λ (a : Arg). a.global) c.required.ensures ∙ c.policy_option.ensures.local,
         (
-          ap (λ (a : Arg). a.global) c.required-2.ensures ∙ c.profile_option.ensures.local,
+          c.profile_option.ensures.local,
           (
-            c.nodes_option.ensures.local,
-            (c.flag.ensures.local, (c.valued.ensures.local, tt)),
+            c.flag.ensures.local,
+            (
+              c.valued.ensures.local,
+              (
+                c.nodes_option.ensures.local,
+                (c.flag-2.ensures.local, (c.valued-2.ensures.local, tt)),
+              ),
+            ),
           ),
         ),
       ),
