@@ -3,7 +3,7 @@ use Rattle.std.specs.Prelude.{⊤, ◌≡◌, ℕ, List, Option, Result, Ok, Err
 use Rattle.std.specs.List.{AllZip}
 use Rattle.ll_program.specs.Options.{CheckOrder}
 use Rattle.ll_program.specs.declared.conclusion.Conclusion.{Conclusion}
-use Rattle.ll_program.specs.declared.conclusion.Conclusion.TheVariants.{Done, Judged, Stopped}
+use Rattle.ll_program.specs.declared.conclusion.Conclusion.TheVariants.{Differs, Done, Judged, Stopped}
 use Rattle.ll_program.specs.declared.conclusion.Conclusion.TheVariants as conclusion
 use Rattle.ll_program.specs.declared.checked.Checked.{Checked}
 use Rattle.ll_program.specs.declared.failure.Failure.{Failure}
@@ -50,6 +50,7 @@ abbrev pub EndsCheck : (texts : Option (List ℕ) → Option (List ℕ)) → Che
 EndsCheck texts order out out' (Ok Done) = ⊥
 EndsCheck texts order out out' (Ok (Stopped stopped)) = ⊥
 EndsCheck texts order out out' (Ok (Judged verdict)) = ⊥
+EndsCheck texts order out out' (Ok Differs) = ⊥
 EndsCheck texts order out out' (Ok (conclusion.Checked end)) =
     (policy : List ℕ) × IsPolicyText texts order.policy policy × Writes out out' (IsCheckOf texts order policy end)
 EndsCheck texts order out out' (Err failure) = FailsCheck texts order failure × BeginsCheck texts order out out' failure
