@@ -8,6 +8,7 @@ use Rattle.ll_program.specs.declared.failure.Failure.{Failure}
 use Rattle.ll_program.specs.declared.failure.Failure.TheVariants.{CommandLine, Policy, Opening, File, Output, Socket}
 use Rattle.ll_program.specs.declared.failure.Failure.TheVariants.{NoMemory}
 use Rattle.ll_session.specs.declared.setup.Setup.{Setup}
+use Rattle.ll_why.specs.declared.style.WhyStyle.{WhyStyle}
 use Rattle.ll_commands.specs.Opening.{FailsSo, IsStopped}
 use Rattle.ll_commands.specs.Why.{Answers, CommandFails, EntryFails, Fails, HasNoCommand, IsNoCommand}
 use Rattle.ll_commands.specs.declared.why.Answer.{Answer}
@@ -52,8 +53,8 @@ by_file number file Socket (inr e) = absurd (cc e)
 by_file number file NoMemory is = tt
 
 -- where something is answered, memory may be wanted
-pub lacks_memory : (nodes : ℕ) (asked : Option Asked) (file : List ℕ) (answer : Answer)
-    → Answers nodes asked file answer → Fails nodes asked file NoMemory
-lacks_memory nodes None file answer is = absurd is
-lacks_memory nodes (Some (of_entry history number)) file answer is = tt
-lacks_memory nodes (Some (of_command policy profile before word)) file answer is = tt
+pub lacks_memory : (style : WhyStyle) (nodes : ℕ) (asked : Option Asked) (file : List ℕ) (answer : Answer)
+    → Answers style nodes asked file answer → Fails nodes asked file NoMemory
+lacks_memory style nodes None file answer is = absurd is
+lacks_memory style nodes (Some (of_entry history number)) file answer is = tt
+lacks_memory style nodes (Some (of_command policy profile before word)) file answer is = tt

@@ -10,5 +10,6 @@ pub mod Numbers
 pub mod Spelled
 pub mod Rows
 pub mod Stopping
+pub mod Tables
 pub mod Written
 pub mod Performed

@@ -13,7 +13,7 @@ use Rattle.ll_steps.specs.Told.{IsBegunAs, IsToldAs, lines_answered}
 use Rattle.ll_program.specs.Options.{ScheduleOrder}
 use Rattle.ll_program.specs.Failure.{IsOfDevices, IsOfSaving}
 use Rattle.ll_program.specs.declared.conclusion.Conclusion.{Conclusion}
-use Rattle.ll_program.specs.declared.conclusion.Conclusion.TheVariants.{Checked, Done, Judged, Stopped}
+use Rattle.ll_program.specs.declared.conclusion.Conclusion.TheVariants.{Checked, Differs, Done, Judged, Stopped}
 use Rattle.ll_program.specs.declared.failure.Failure.{Failure}
 use Rattle.ll_program.specs.declared.failure.Failure.TheVariants.{CommandLine, Policy, Opening, File, Output, Socket}
 use Rattle.ll_program.specs.declared.failure.Failure.TheVariants.{NoMemory}
@@ -72,6 +72,7 @@ module _ (order : ScheduleOrder) (known out out' : Option (List ℕ)) where
   concluded (Some halt) (Stopped stopped) ran is = (halt, ran, is)
   concluded (Some halt) (Judged verdict) ran is = absurd is
   concluded (Some halt) (Checked end) ran is = absurd is
+  concluded (Some halt) Differs ran is = absurd is
 
   pub ends_schedule : (halt : Option Halt) (r : Result Conclusion Failure) → RunsSchedule order known out out' halt
       → IfOk r (IsScheduleEnd order.file halt) → IfErr r (λ failure. failure ≡ NoMemory)

@@ -1,7 +1,8 @@
--- Why there is no table of rights.
+-- Why rights aren't known.
 use Rattle.std.specs.Prelude.{◌≡◌, ℕ, List, [], Option, Some, None, IfSome, refl}
 use Rattle.std.proofs.Common.{inl, inr}
-use Rattle.ll_program.specs.Options.{RightsOrder}
+use Rattle.clap.specs.Words.{Text}
+use Rattle.ll_program.specs.Options.{TreeOrder}
 use Rattle.ll_program.specs.Paths.{HasBadWord, IsOfWords}
 use Rattle.ll_program.specs.Policy.{IsSetup, Lacks}
 use Rattle.ll_program.specs.declared.failure.Failure.{Failure}
@@ -9,7 +10,7 @@ use Rattle.ll_program.specs.declared.failure.Failure.TheVariants.{CommandLine, P
 use Rattle.ll_program.specs.declared.failure.Failure.TheVariants.{NoMemory}
 use Rattle.ll_session.specs.declared.setup.Setup.{Setup}
 use Rattle.ll_commands.specs.Opening.{FailsSo, IsStopped}
-use Rattle.ll_commands.specs.Rights.{LacksTable, table_tree}
+use Rattle.ll_commands.specs.Rights.{LacksRights}
 
 pub fails_so : (P Q : Type 0) (f : Failure) → (P → Q) → FailsSo P f → FailsSo Q f
 fails_so P Q CommandLine g p = absurd p
@@ -25,8 +26,8 @@ pub left : (o : Option (List ℕ)) → (text : List ℕ) × IfSome o (λ told. t
 left None = ([], tt)
 left (Some told) = (told, refl)
 
-module _ (order : RightsOrder) (text : List ℕ) where
-  pub by_words : (f : Failure) → IsOfWords f → (f ≡ CommandLine → HasBadWord order.paths) → LacksTable order text f
+module _ (words : List Text) (tree : TreeOrder) (text : List ℕ) where
+  pub by_words : (f : Failure) → IsOfWords f → (f ≡ CommandLine → HasBadWord words) → LacksRights words tree text f
   by_words CommandLine is bad = inl (bad refl)
   by_words (Policy fault) is bad = absurd is
   by_words Opening is bad = absurd is
@@ -35,7 +36,7 @@ module _ (order : RightsOrder) (text : List ℕ) where
   by_words Socket is bad = absurd is
   by_words NoMemory is bad = tt
 
-  pub by_setup : (f : Failure) → Lacks (table_tree order) text f → LacksTable order text f
+  pub by_setup : (f : Failure) → Lacks tree text f → LacksRights words tree text f
   by_setup CommandLine lacks = inr lacks
   by_setup (Policy fault) lacks = lacks
   by_setup Opening lacks = absurd lacks
@@ -44,8 +45,8 @@ module _ (order : RightsOrder) (text : List ℕ) where
   by_setup Socket lacks = absurd lacks
   by_setup NoMemory lacks = tt
 
-  pub by_opening : (setup : Setup) (f : Failure) → IsSetup (table_tree order) text setup → FailsSo (IsStopped setup) f
-      → LacksTable order text f
+  pub by_opening : (setup : Setup) (f : Failure) → IsSetup tree text setup → FailsSo (IsStopped setup) f
+      → LacksRights words tree text f
   by_opening setup CommandLine is fails = absurd fails
   by_opening setup (Policy fault) is fails = absurd fails
   by_opening setup Opening is fails = (setup, is, fails)

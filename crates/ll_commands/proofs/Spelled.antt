@@ -49,7 +49,7 @@ spell_all words i calls end before =
 
 -- ---- none connects
 
-no_connect : (call : Call) → IsCall call → is_connect call ≡ false
+pub no_connect : (call : Call) → IsCall call → is_connect call ≡ false
 no_connect Connect is = absurd is
 no_connect _ is = refl
 

@@ -17,7 +17,7 @@ use Rattle.ll_program.specs.Learn.{fits_learn}
 use Rattle.ll_program.specs.Paths.{HasBadWord}
 use Rattle.ll_program.specs.Sources.{named}
 use Rattle.ll_program.specs.declared.conclusion.Conclusion.{Conclusion}
-use Rattle.ll_program.specs.declared.conclusion.Conclusion.TheVariants.{Checked, Done, Judged, Stopped}
+use Rattle.ll_program.specs.declared.conclusion.Conclusion.TheVariants.{Checked, Differs, Done, Judged, Stopped}
 use Rattle.ll_program.specs.declared.checked.Checked.TheVariants as checked
 use Rattle.ll_program.specs.declared.failure.Failure.{Failure}
 use Rattle.ll_program.specs.declared.failure.Failure.TheVariants.{CommandLine, Policy, Opening, File, Output, Socket}
@@ -85,6 +85,7 @@ IsLearning order text out out' (Ok (Checked checked.Passed)) = ⊥
 IsLearning order text out out' (Ok (Checked checked.Failed)) =
     (fault : Unlearned) × LearnsNothing order text fault × (out' ≡ out)
 IsLearning order text out out' (Ok (Checked checked.BadLine)) = ⊥
+IsLearning order text out out' (Ok Differs) = ⊥
 IsLearning order text out out' (Err CommandLine) =
     (IsMisaimed order text ⊎ ((rules : ℕ) × LearnsMuch order text rules)) × (out' ≡ out)
 IsLearning order text out out' (Err (Policy fault)) = ⊥

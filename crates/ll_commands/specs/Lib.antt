@@ -1,13 +1,16 @@
 pub mod CProgram
 pub mod Confinement
 pub mod Counts
+pub mod Difference
 pub mod Export
 pub mod Fixed
 pub mod Json
 pub mod Loading
 pub mod Opening
 pub mod Output
+pub mod Profiles
 pub mod Rights
+pub mod RightsEnd
 pub mod Schedules
 pub mod Serving
 pub mod Why

@@ -14,7 +14,7 @@ use Rattle.ll_program.specs.Failure.{IsOfDevices, place_line}
 use Rattle.ll_program.specs.Options.{ScheduleOrder}
 use Rattle.clap.specs.Words.{Text}
 use Rattle.ll_program.specs.declared.conclusion.Conclusion.{Conclusion}
-use Rattle.ll_program.specs.declared.conclusion.Conclusion.TheVariants.{Checked, Done, Judged, Stopped}
+use Rattle.ll_program.specs.declared.conclusion.Conclusion.TheVariants.{Checked, Differs, Done, Judged, Stopped}
 use Rattle.ll_program.specs.declared.failure.Failure.{Failure}
 use Rattle.ll_program.specs.declared.stopped.Stopped as known
 use Rattle.ll_wire.specs.Transcript.{Writes}
@@ -78,4 +78,5 @@ EndsSchedule text order out out' (Ok (Stopped stopped)) =
     (halt : Halt) × RunsSchedule order text out out' (Some halt) × IsHalted order.file halt stopped
 EndsSchedule text order out out' (Ok (Judged verdict)) = ⊥
 EndsSchedule text order out out' (Ok (Checked end)) = ⊥
+EndsSchedule text order out out' (Ok Differs) = ⊥
 EndsSchedule text order out out' (Err failure) = FailsSchedule order text out out' failure

@@ -11,7 +11,7 @@ use Rattle.ll_program.specs.Failure.{IsOfBeginning, IsOfSaving}
 use Rattle.ll_program.specs.Policy.{IsSaved, IsSetup, Lacks}
 use Rattle.ll_program.specs.Sources.{text_in}
 use Rattle.ll_program.specs.declared.conclusion.Conclusion.{Conclusion}
-use Rattle.ll_program.specs.declared.conclusion.Conclusion.TheVariants.{Checked, Done, Judged, Stopped}
+use Rattle.ll_program.specs.declared.conclusion.Conclusion.TheVariants.{Checked, Differs, Done, Judged, Stopped}
 use Rattle.ll_program.specs.declared.failure.Failure.{Failure}
 use Rattle.ll_program.specs.declared.failure.Failure.TheVariants.{CommandLine, Policy, Opening, File, Output, Socket}
 use Rattle.ll_program.specs.declared.failure.Failure.TheVariants.{NoMemory}
@@ -83,6 +83,7 @@ EndsServe texts order out out' (Ok Done) =
 EndsServe texts order out out' (Ok (Stopped it)) = ⊥
 EndsServe texts order out out' (Ok (Judged verdict)) = ⊥
 EndsServe texts order out out' (Ok (Checked end)) = ⊥
+EndsServe texts order out out' (Ok Differs) = ⊥
 EndsServe texts order out out' (Err failure) =
     (IsOfBeginning order.save failure × (out' ≡ out))
     ⊎ ((text : List ℕ) × (file file' : Option (List ℕ)) × IfSome (text_in texts order.policy) (λ told. text ≡ told)

@@ -12,6 +12,8 @@ use Rattle.ll_audit.specs.Saved.{verdict_line}
 use Rattle.ll_audit.specs.declared.verdict.Verdict.TheVariants as verdict
 use Rattle.ll_program.specs.Options.{Asked, TreeOrder, WhyOrder, asked_by, of_command, of_entry, profile_tree}
 use Rattle.ll_program.specs.Policy.{IsSetup, Lacks}
+use Rattle.ll_program.specs.declared.report.AnswerForm.{AnswerForm}
+use Rattle.ll_program.specs.declared.report.AnswerForm.TheVariants as answers
 use Rattle.ll_program.specs.declared.conclusion.Conclusion.{Conclusion}
 use Rattle.ll_program.specs.declared.conclusion.Conclusion.TheVariants.{Done, Judged}
 use Rattle.ll_program.specs.declared.failure.Failure.{Failure}
@@ -25,6 +27,8 @@ use Rattle.ll_commands.specs.Output.{FailsToTell}
 use Rattle.ll_why.specs.CallWhy.{IsCallWhy, IsCommand}
 use Rattle.ll_why.specs.Entries.{IsHistoryWhy}
 use Rattle.ll_why.specs.declared.history.HistoryWhy.TheVariants as history
+use Rattle.ll_why.specs.declared.style.WhyStyle.{WhyStyle}
+use Rattle.ll_why.specs.declared.style.WhyStyle.TheVariants.{Lines, Json}
 use Rattle.ll_commands.specs.declared.why.Answer.{Answer}
 use Rattle.ll_commands.specs.declared.why.Answer.TheVariants.{Told, BadLine}
 
@@ -44,7 +48,8 @@ Follows client s (call ∷ calls) t =
 
 -- the text on the command that the word spells, after those that the words before spell, in a new tree by the policy
 -- with this text
-pub record IsCommandWhy (tree : TreeOrder) (policy : List ℕ) (before : List Text) (word text : List ℕ) : Type 0 where
+pub record IsCommandWhy (style : WhyStyle) (tree : TreeOrder) (policy : List ℕ) (before : List Text)
+    (word text : List ℕ) : Type 0 where
   pub setup : Setup
   pub client : ℕ
   pub opened : State
@@ -56,25 +61,29 @@ pub record IsCommandWhy (tree : TreeOrder) (policy : List ℕ) (before : List Te
   pub spell : AllZip IsCommand before calls
   pub follows : Follows client opened calls state
   pub spells : IsCommand word call
-  pub is : IsCallWhy setup.rules.abi state client call text
+  pub is : IsCallWhy style setup.rules.abi state client call text
 
-abbrev pub EntryAnswers : ℕ → List ℕ → Answer → Type 0
-EntryAnswers number file (Told text) = IsHistoryWhy (pieces file) number (history.Told text)
-EntryAnswers number file (BadLine line) = IsHistoryWhy (pieces file) number (history.BadLine line)
+abbrev pub why_style : Option AnswerForm → WhyStyle
+why_style (Some answers.Json) = Json
+why_style form = Lines
 
-abbrev pub CommandAnswers : TreeOrder → (before : List Text) → (word file : List ℕ) → Answer → Type 0
-CommandAnswers tree before word file (Told text) = IsCommandWhy tree file before word (string_bytes text)
-CommandAnswers tree before word file (BadLine line) = ⊥
+abbrev pub EntryAnswers : WhyStyle → ℕ → List ℕ → Answer → Type 0
+EntryAnswers style number file (Told text) = IsHistoryWhy style (pieces file) number (history.Told text)
+EntryAnswers style number file (BadLine line) = IsHistoryWhy style (pieces file) number (history.BadLine line)
+
+abbrev pub CommandAnswers : WhyStyle → TreeOrder → (before : List Text) → (word file : List ℕ) → Answer → Type 0
+CommandAnswers style tree before word file (Told text) = IsCommandWhy style tree file before word (string_bytes text)
+CommandAnswers style tree before word file (BadLine line) = ⊥
 
 -- the answer, if the file of the history or the policy has this text
-abbrev pub Answers : ℕ → Option Asked → List ℕ → Answer → Type 0
-Answers nodes None file answer = ⊥
-Answers nodes (Some (of_entry name number)) file answer = EntryAnswers number file answer
-Answers nodes (Some (of_command policy profile before word)) file answer =
-    CommandAnswers (profile_tree policy profile nodes) before word file answer
+abbrev pub Answers : WhyStyle → ℕ → Option Asked → List ℕ → Answer → Type 0
+Answers style nodes None file answer = ⊥
+Answers style nodes (Some (of_entry name number)) file answer = EntryAnswers style number file answer
+Answers style nodes (Some (of_command policy profile before word)) file answer =
+    CommandAnswers style (profile_tree policy profile nodes) before word file answer
 
 abbrev pub IsAnswer : WhyOrder → List ℕ → Answer → Type 0
-IsAnswer order file answer = Answers order.nodes (asked_by order) file answer
+IsAnswer order file answer = Answers (why_style order.form) order.nodes (asked_by order) file answer
 
 abbrev pub answer_text : Answer → List ℕ
 answer_text (Told text) = string_bytes text
@@ -97,7 +106,7 @@ IsToldSo order file conclusion written =
 
 -- why an entry isn't explained: the history has none with this number; its file can't be read; NoMemory
 abbrev pub EntryFails : ℕ → List ℕ → Failure → Type 0
-EntryFails number file CommandLine = IsHistoryWhy (pieces file) number history.NoEntry
+EntryFails number file CommandLine = IsHistoryWhy Lines (pieces file) number history.NoEntry
 EntryFails number file (Policy fault) = ⊥
 EntryFails number file Opening = ⊥
 EntryFails number file File = ⊤

@@ -18,7 +18,7 @@ use ll_program::Failure;
 use ll_rights::Errno;
 use ll_seq::Call;
 use ll_session::Setup;
-use ll_why::call_why;
+use ll_why::{WhyStyle, call_why};
 use ll_wire::read_command;
 use std::alloc::{AllocError, Global};
 
@@ -32,7 +32,7 @@ fn line_of(alloc: Global, word: &str) -> Result<String, AllocError>
 }
 
 /// Returns the call that the word spells. Errors: it spells none, or memory ran out.
-pub(crate) fn call_of(alloc: Global, word: &str) -> Result<Call, Failure>
+pub fn call_of(alloc: Global, word: &str) -> Result<Call, Failure>
     ensures call { IfOk result (IsCommand word.now) }
     ensures bad { IfErr result (λ failure. failure ≡ Failure.CommandLine
         → (call : calls_of.Call) → IsCommand word.now call → ⊥) }
@@ -48,8 +48,8 @@ pub(crate) fn call_of(alloc: Global, word: &str) -> Result<Call, Failure>
     }
 }
 
-// Returns the calls that the words spell. Errors: one spells none, or memory ran out.
-pub(crate) fn calls_of(alloc: Global, words: &[&str]) -> Result<Vec<Call>, Failure>
+/// Returns the calls that the words spell. Errors: one spells none, or memory ran out.
+pub fn calls_of(alloc: Global, words: &[&str]) -> Result<Vec<Call>, Failure>
     ensures calls { IfOk result (λ calls. AllZip IsCommand (map (λ w. w.now) words.now) calls.items) }
     ensures bad { IfErr result (λ failure. failure ≡ Failure.CommandLine
         → HasNoCommand (map (λ w. w.now) words.now)) }
@@ -119,8 +119,9 @@ fn loader_fits(loader: &Option<Vec<Call>>)
 
 /// Returns the text on the call in a new tree with this setup, after the calls before it. Errors: a call of the setup
 /// is refused, or memory ran out.
-pub(crate) fn told_of_setup(
+pub fn told_of_setup(
     alloc: Global,
+    style: WhyStyle,
     setup: &Setup,
     before: &[Call],
     call: &Call,
@@ -128,7 +129,8 @@ pub(crate) fn told_of_setup(
     requires before { AreOthers before.now }
     requires call { is_connect call.now ≡ false }
     ensures told { IfOk result (λ text. (client : ℕ) × (opened : State) × (s : State) × Opens setup.now client opened
-        × Follows client opened before.now s × IsCallWhy setup.now.rules.abi s client call.now (string_bytes text)) }
+        × Follows client opened before.now s
+        × IsCallWhy style setup.now.rules.abi s client call.now (string_bytes text)) }
     ensures failure { IfErr result (FailsSo (IsStopped setup.now)) }
 {
     let opened = match open_tree(alloc, setup) {
@@ -143,7 +145,7 @@ pub(crate) fn told_of_setup(
         Ok(()) => {}
         Err(_) => return Err(Failure::NoMemory),
     }
-    match call_why(alloc, tree, setup.rules.abi, client, call) {
+    match call_why(alloc, style, tree, setup.rules.abi, client, call) {
         Ok(text) => Ok(text),
         Err(_) => Err(Failure::NoMemory),
     }

@@ -8,6 +8,7 @@ mod closing;
 mod commands;
 mod confinement;
 mod counts;
+mod difference;
 mod door;
 mod exporting;
 mod fixed;
@@ -19,6 +20,7 @@ mod loading;
 mod log;
 mod opening;
 mod port;
+mod profiles;
 mod rights;
 mod room;
 mod schedules;
@@ -27,7 +29,9 @@ mod trouble;
 mod why;
 
 pub use c_program::c_text;
+pub use commands::{call_of, calls_of, told_of_setup};
 pub use confinement::{Confinement, Flaw, FlawedProfile, LayerFlaw, RuleFlaw};
+pub use difference::{rights_difference, tell_difference};
 pub use exporting::{export, export_checked, exported, flaw_of};
 pub use json::json_text;
 pub use learn::{learn_history, tell_learned};
@@ -36,7 +40,8 @@ pub use ll_picture::Film;
 pub use log::Log;
 pub use opening::{Opened, open_tree};
 pub use port::{Binds, Listens, Loopback, Missed, Port};
-pub use rights::{rights_table, tell_rights};
+pub use profiles::{all_tables, tell_all_rights};
+pub use rights::{rights_table, rows_told, tell_rights};
 pub use schedules::{
     Drawn, conclude_schedule, draw_in, draw_over, draw_schedule, film_by, perform_over,
     perform_schedule, schedule, schedule_drawn, setup_by,

@@ -2,9 +2,9 @@
 
 ghost use Rattle.std.specs.Prelude.{◌≡◌, ℕ, List, IfOk, IfErr, IfSome, OnOk, string_bytes};
 ghost use Rattle.ll_wire.specs.Transcript.{Writes};
-ghost use Rattle.ll_program.specs.Options.{rights_in};
+ghost use Rattle.ll_program.specs.Rights.{rights_in};
 ghost use Rattle.ll_seq.specs.Step.{client_of};
-ghost use Rattle.ll_commands.specs.Rights.{IsTable, LacksTable, MayFail, loader_calls, style_of};
+ghost use Rattle.ll_commands.specs.Rights.{IsTable, IsTableIn, LacksTable, MayFail, loader_calls, style_of};
 ghost use Rattle.ll_why.specs.PathRows.{AreRows, paths_or_nodes};
 
 use crate::opening::{Opened, open_tree};
@@ -16,7 +16,7 @@ use ll_why::{RowStyle, rows_text};
 use std::alloc::{AllocError, Global};
 use std::io::{Read, Write};
 
-fn style_of(options: &RightsOptions) -> RowStyle
+fn style_of(options: &RightsOptions) -> RowStyle<'static>
     ensures { result ≡ style_of (rights_in options.now) }
 {
     match options.form {
@@ -25,8 +25,8 @@ fn style_of(options: &RightsOptions) -> RowStyle
     }
 }
 
-// Returns the calls of the loader, if there is one.
-fn loader_calls(setup: &Setup) -> &[Call]
+/// Returns the calls of the loader, if there is one.
+pub(crate) fn loader_calls(setup: &Setup) -> &[Call]
     ensures { result.now ≡ loader_calls setup.now }
 {
     match &setup.loader {
@@ -35,8 +35,8 @@ fn loader_calls(setup: &Setup) -> &[Call]
     }
 }
 
-// Returns the lines of the given paths, or by default of the policy's nodes.
-fn rows_told(
+/// Returns the lines of the given paths, or by default of the policy's nodes.
+pub fn rows_told(
     alloc: Global,
     opened: &Opened,
     setup: &Setup,
@@ -44,7 +44,7 @@ fn rows_told(
     style: RowStyle,
 ) -> Result<String, AllocError>
     ensures { IfOk result (λ text.
-        AreRows opened.now.tree (client_of opened.now.tree opened.now.client).domain style
+        AreRows opened.now.tree (client_of opened.now.tree opened.now.client).domain style.entry
         (paths_or_nodes paths.now (loader_calls setup.now)) (string_bytes text)) }
 {
     let Some(client) = opened.tree.client(opened.client) else {
@@ -54,17 +54,18 @@ fn rows_told(
     rows_text(alloc, &opened.tree, &client.domain, style, paths, calls)
 }
 
-/// Returns the table that the options ask for, by the policy in this file. Errors: a word spells no path, the policy
-/// gives no setup, a call of it is refused, the file can't be read, or memory ran out.
-pub fn rights_table<R: Read>(
+/// Returns the table of the profile's rights in this style, by the policy in this file. Errors: as of `rights_table`.
+pub(crate) fn table_in<R: Read>(
     alloc: Global,
     options: &RightsOptions,
+    profile: &str,
+    style: RowStyle,
     file: &mut R,
 ) -> Result<String, Failure>
     ensures table { IfOk result (λ table. (text : List ℕ) × IfSome (R.remaining file.old) (λ told. text ≡ told)
-        × IsTable (rights_in options.now) text (string_bytes table)) }
+        × IsTableIn style.entry (rights_in options.now) profile.now text (string_bytes table)) }
     ensures failure { IfErr result (λ failure. (text : List ℕ) × IfSome (R.remaining file.old) (λ told. text ≡ told)
-        × LacksTable (rights_in options.now) text failure) }
+        × LacksTable (rights_in options.now) profile.now text failure) }
 {
     let paths = match paths_of(alloc, options.paths.as_slice()) {
         Ok(paths) => paths,
@@ -72,7 +73,7 @@ pub fn rights_table<R: Read>(
     };
     let setup = match setup_of(
         alloc,
-        &TreeOptions::of_profile(options.policy, options.profile, options.nodes),
+        &TreeOptions::of_profile(options.policy, profile, options.nodes),
         file,
     ) {
         Ok(setup) => setup,
@@ -82,26 +83,43 @@ pub fn rights_table<R: Read>(
         Ok(opened) => opened,
         Err(failure) => return Err(failure),
     };
-    match rows_told(alloc, &opened, &setup, paths.as_slice(), style_of(options)) {
+    match rows_told(alloc, &opened, &setup, paths.as_slice(), style) {
         Ok(text) => Ok(text),
         Err(_) => Err(Failure::NoMemory),
     }
 }
 
-/// Writes the table that the options ask for, by the policy in this file. Writes nothing before the table is complete,
-/// and doesn't retry after a failure. Errors: those of `rights_table`; the output failed.
+/// Returns the table of the profile's rights that the options ask for, by the policy in this file. Errors: a word
+/// spells no path, the policy gives no setup, a call of it is refused, the file can't be read, or memory ran out.
+pub fn rights_table<R: Read>(
+    alloc: Global,
+    options: &RightsOptions,
+    profile: &str,
+    file: &mut R,
+) -> Result<String, Failure>
+    ensures table { IfOk result (λ table. (text : List ℕ) × IfSome (R.remaining file.old) (λ told. text ≡ told)
+        × IsTable (rights_in options.now) profile.now text (string_bytes table)) }
+    ensures failure { IfErr result (λ failure. (text : List ℕ) × IfSome (R.remaining file.old) (λ told. text ≡ told)
+        × LacksTable (rights_in options.now) profile.now text failure) }
+{
+    table_in(alloc, options, profile, style_of(options), file)
+}
+
+/// Writes the table of the profile's rights that the options ask for, by the policy in this file. Writes nothing before
+/// the table is complete, and doesn't retry after a failure. Errors: those of `rights_table`; the output failed.
 pub fn tell_rights<R: Read, W: Write>(
     alloc: Global,
     options: &RightsOptions,
+    profile: &str,
     file: &mut R,
     out: &mut W,
 ) -> Result<(), Failure>
     ensures table { OnOk result ((text : List ℕ) × IfSome (R.remaining file.old) (λ told. text ≡ told)
-        × Writes (W.contents out.old) (W.contents out.new) (IsTable (rights_in options.now) text)) }
+        × Writes (W.contents out.old) (W.contents out.new) (IsTable (rights_in options.now) profile.now text)) }
     ensures failure { IfErr result (λ failure. (text : List ℕ) × IfSome (R.remaining file.old) (λ told. text ≡ told)
-        × MayFail (rights_in options.now) text (W.contents out.old) (W.contents out.new) failure) }
+        × MayFail (rights_in options.now) profile.now text (W.contents out.old) (W.contents out.new) failure) }
 {
-    let table = match rights_table(alloc, options, file) {
+    let table = match rights_table(alloc, options, profile, file) {
         Ok(table) => table,
         Err(failure) => return Err(failure),
     };

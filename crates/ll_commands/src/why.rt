@@ -7,30 +7,45 @@ ghost use Rattle.ll_wire.specs.Transcript.{Writes};
 ghost use Rattle.ll_program.specs.Options.{tree_in, why_in};
 ghost use Rattle.ll_wire.specs.Writing.{AppendsFront};
 ghost use Rattle.ll_commands.specs.Why.{CommandAnswers, CommandFails, EntryAnswers, EntryFails, IsAnswer};
-ghost use Rattle.ll_commands.specs.Why.{IsToldSo, LacksAnswer, MayFail, answer_text, conclusion_of};
+ghost use Rattle.ll_commands.specs.Why.{IsToldSo, LacksAnswer, MayFail, answer_text, conclusion_of, why_style};
 
 use crate::commands::{call_of, calls_of, told_of_setup};
 use ll_audit::Verdict;
 use ll_program::{
-    Conclusion, Failure, Question, TreeOptions, WhyOptions, read_text, setup_of, write_text,
+    AnswerForm, Conclusion, Failure, Question, TreeOptions, WhyOptions, read_text, setup_of,
+    write_text,
 };
-use ll_why::{HistoryWhy, why_entry};
+use ll_why::{HistoryWhy, WhyStyle, why_entry};
 use std::alloc::Global;
 use std::io::{Read, Write};
 
 /// An explanation, or why there is none.
 #[derive(Drop)]
 pub enum Answer {
-    /// Lines for people.
+    /// Lines for people, or an object of JSON.
     Told(String),
     /// The history's first malformed line, counted from 1.
     BadLine(usize),
 }
 
+fn why_style(form: Option<AnswerForm>) -> WhyStyle
+    ensures { result ≡ why_style form }
+{
+    match form {
+        Some(AnswerForm::Json) => WhyStyle::Json,
+        Some(AnswerForm::Text) | None => WhyStyle::Lines,
+    }
+}
+
 // Explains the history's entry with this number.
-fn answer_of_entry<R: Read>(alloc: Global, file: &mut R, number: u64) -> Result<Answer, Failure>
+fn answer_of_entry<R: Read>(
+    alloc: Global,
+    style: WhyStyle,
+    file: &mut R,
+    number: u64,
+) -> Result<Answer, Failure>
     ensures told { IfOk result (λ answer. (text : List ℕ) × IfSome (R.remaining file.old) (λ told. text ≡ told)
-        × EntryAnswers number text answer) }
+        × EntryAnswers style number text answer) }
     ensures failure { IfErr result (λ failure. (text : List ℕ) × IfSome (R.remaining file.old) (λ told. text ≡ told)
         × EntryFails number text failure) }
 {
@@ -38,7 +53,7 @@ fn answer_of_entry<R: Read>(alloc: Global, file: &mut R, number: u64) -> Result<
         Ok(bytes) => bytes,
         Err(failure) => return Err(failure),
     };
-    match why_entry(alloc, bytes.as_slice(), number as usize) {
+    match why_entry(alloc, style, bytes.as_slice(), number as usize) {
         Ok(HistoryWhy::Told(text)) => Ok(Answer::Told(text)),
         Ok(HistoryWhy::BadLine(line)) => Ok(Answer::BadLine(line)),
         Ok(HistoryWhy::NoEntry) => Err(Failure::CommandLine),
@@ -49,13 +64,14 @@ fn answer_of_entry<R: Read>(alloc: Global, file: &mut R, number: u64) -> Result<
 // Explains the command that the word spells, after those before it, by this run's policy.
 fn answer_of_command<R: Read>(
     alloc: Global,
+    style: WhyStyle,
     tree: &TreeOptions,
     before: &[&str],
     word: &str,
     file: &mut R,
 ) -> Result<Answer, Failure>
     ensures told { IfOk result (λ answer. (text : List ℕ) × IfSome (R.remaining file.old) (λ told. text ≡ told)
-        × CommandAnswers (tree_in tree.now) (map (λ w. w.now) before.now) word.now text answer) }
+        × CommandAnswers style (tree_in tree.now) (map (λ w. w.now) before.now) word.now text answer) }
     ensures failure { IfErr result (λ failure. (text : List ℕ) × IfSome (R.remaining file.old) (λ told. text ≡ told)
         × CommandFails (tree_in tree.now) (map (λ w. w.now) before.now) word.now text failure) }
 {
@@ -71,7 +87,7 @@ fn answer_of_command<R: Read>(
         Ok(setup) => setup,
         Err(failure) => return Err(failure),
     };
-    match told_of_setup(alloc, &setup, calls.as_slice(), &call) {
+    match told_of_setup(alloc, style, &setup, calls.as_slice(), &call) {
         Ok(text) => Ok(Answer::Told(text)),
         Err(failure) => Err(failure),
     }
@@ -89,12 +105,13 @@ pub fn answer_of<R: Read>(
     ensures failure { IfErr result (λ failure. (text : List ℕ) × IfSome (R.remaining file.old) (λ told. text ≡ told)
         × LacksAnswer (why_in options.now) text failure) }
 {
+    let style = why_style(options.form);
     match options.question() {
         None => Err(Failure::CommandLine),
-        Some(Question::Entry(_, number)) => answer_of_entry(alloc, file, number),
+        Some(Question::Entry(_, number)) => answer_of_entry(alloc, style, file, number),
         Some(Question::Command(asked)) => {
             let tree = TreeOptions::of_profile(asked.policy, asked.profile, options.nodes);
-            answer_of_command(alloc, &tree, asked.before, asked.command, file)
+            answer_of_command(alloc, style, &tree, asked.before, asked.command, file)
         }
     }
 }

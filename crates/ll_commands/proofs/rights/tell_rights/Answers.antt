@@ -13,16 +13,18 @@ returns-in-Err-clause-failure g c =
 pub returns-clause-table : goal.returns-clause-table
 returns-clause-table g c =
     let order = rights_in c.args.options.now in
+    let profile = c.args.profile.now in
     let is = c.in-Ok.ensures.table in
     written (g.R.Read.remaining c.args.file.now) (g.W.Write.contents c.args.out.now)
-    (g.W.Write.contents c.write_text.new.out) (IsTable order) is.0 c.as_str.result.now is.1
-    (subst (IsTable order is.0) (sym c.as_str.ensures.value) is.2) c.write_text.result c.write_text.ensures.ok
+    (g.W.Write.contents c.write_text.new.out) (IsTable order profile) is.0 c.as_str.result.now is.1
+    (subst (IsTable order profile is.0) (sym c.as_str.ensures.value) is.2) c.write_text.result c.write_text.ensures.ok
 
 pub returns-clause-failure : goal.returns-clause-failure
 returns-clause-failure g c =
     let order = rights_in c.args.options.now in
+    let profile = c.args.profile.now in
     let is = c.in-Ok.ensures.table in
     broken (g.R.Read.remaining c.args.file.now) (g.W.Write.contents c.args.out.now)
-    (g.W.Write.contents c.write_text.new.out) (IsTable order) is.0 c.as_str.result.now is.1
-    (subst (IsTable order is.0) (sym c.as_str.ensures.value) is.2) (LacksTable order) c.write_text.result
-    c.write_text.ensures.failure
+    (g.W.Write.contents c.write_text.new.out) (IsTable order profile) is.0 c.as_str.result.now is.1
+    (subst (IsTable order profile is.0) (sym c.as_str.ensures.value) is.2) (LacksTable order profile)
+    c.write_text.result c.write_text.ensures.failure

@@ -1,0 +1,37 @@
+use Rattle.std.proofs.Common.{◌++◌, [], List, ap, append-nil, ℕ, refl, subst, sym, ◌∙◌, string_bytes}
+use Rattle.ll_program.specs.Rights.{rights_in}
+use Rattle.ll_commands.specs.Profiles.{heading_in}
+use Rattle.ll_commands.specs.Rights.{IsTableIn, LacksTable}
+use Rattle.ll_commands.proofs.profiles.push_table.Goals as goal
+
+pub returns-in-Ok-push_rows-clause-table : goal.returns-in-Ok-push_rows-clause-table
+returns-in-Ok-push_rows-clause-table c =
+    let order = rights_in c.args.options.now in
+    let profile = c.args.profile.now in
+    let style = c.style_among-style.result in
+    let rows = string_bytes c.in-Ok.rows in
+    let is = c.in-Ok.ensures.table in
+    let table = heading_in style profile ++ rows in (
+      table,
+      (
+        table,
+        [],
+        (
+          style,
+          rows,
+          c.style_among-style.ensures,
+          subst (λ (x : List ℕ). IsTableIn style order profile x rows) is.1 is.2,
+          refl,
+        ),
+        refl,
+        sym (append-nil table),
+      ),
+      c.in-Ok-push_rows.ensures
+          ∙ ap (λ l. string_bytes c.args.text.now ++ (heading_in style profile ++ l)) c.as_str.ensures.value,
+    )
+
+pub returns-in-Err-clause-failure : goal.returns-in-Err-clause-failure
+returns-in-Err-clause-failure c =
+    let lacks = c.in-Err.ensures.failure in
+    subst (λ (x : List ℕ). LacksTable (rights_in c.args.options.now) c.args.profile.now x c.in-Err.failure) lacks.1
+    lacks.2
