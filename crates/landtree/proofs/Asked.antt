@@ -39,7 +39,7 @@ module _ (texts : Option (List ℕ) → Option (List ℕ)) (out : Option (List �
   no_end (to_run order) = starved_fitting (fits order) _ out (λ fit. inl (tt, refl))
   no_end (to_audit file) = refl
   no_end (to_schedule order) = starved_fitting (fits_schedule order) _ out (λ fit. (tt, inl refl))
-  no_end (to_rights order) = starved_fitting (fits_rights order) _ out (λ fit. no_rights texts out order)
+  no_end (to_rights order) = starved_fitting (fits_rights order) _ out (λ fit. no_rights texts out order fit)
   no_end (to_check order) =
       starved_fitting (fits_check order) _ out (λ fit.
       (unread texts order NoMemory (inr refl), none_written texts order out NoMemory))

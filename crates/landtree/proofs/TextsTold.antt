@@ -6,8 +6,9 @@ use Rattle.ll_program.specs.declared.conclusion.Conclusion.{Conclusion}
 use Rattle.ll_program.specs.declared.conclusion.Conclusion.TheVariants.{Done}
 use Rattle.ll_program.specs.declared.failure.Failure.{Failure}
 use Rattle.ll_wire.specs.Transcript.{Writes}
-use Rattle.ll_commands.specs.Rights as rights
-use Rattle.ll_commands.specs.Rights.{EndsRights, IsTable}
+use Rattle.ll_commands.specs.Difference.{IsDifferenceSo, TellsNoDifference}
+use Rattle.ll_commands.specs.Output.{FailsToTell}
+use Rattle.ll_commands.specs.RightsEnd.{EndsDifference, EndsTold}
 use Rattle.ll_commands.specs.Why as why
 use Rattle.ll_commands.specs.Why.{EndsWhy, IsToldSo, file_asked}
 
@@ -37,16 +38,26 @@ abbrev pub ended : {A : Type 0} → Result A Failure → Result Conclusion Failu
 ended (Ok done) = Ok Done
 ended (Err failure) = Err failure
 
-module _ (texts : Option (List ℕ) → Option (List ℕ)) (order : RightsOrder) (left out out' : Option (List ℕ))
-    (read : left ≡ texts (Some order.policy)) where
-  of_policy : (text : List ℕ) → IfSome left (λ told. text ≡ told)
-      → IfSome (texts (Some order.policy)) (λ told. text ≡ told)
-  of_policy text is = subst (λ o. IfSome o (λ told. text ≡ told)) read is
-
-  pub rights_end : {A : Type 0} (r : Result A Failure)
-      → OnOk r ((text : List ℕ) × IfSome left (λ told. text ≡ told) × Writes out out' (IsTable order text))
+module _ (texts : Option (List ℕ) → Option (List ℕ)) (policy : List ℕ) (IsText : List ℕ → List ℕ → Type 0)
+    (IsReason : List ℕ → Failure → Type 0) (left out out' : Option (List ℕ)) (read : left ≡ texts (Some policy)) where
+  pub told_end : {A : Type 0} (r : Result A Failure)
+      → OnOk r ((text : List ℕ) × IfSome left (λ told. text ≡ told) × Writes out out' (IsText text))
       → IfErr r (λ failure. (text : List ℕ) × IfSome left (λ told. text ≡ told)
-      × rights.MayFail order text out out' failure)
-      → EndsRights texts order out out' (ended r)
-  rights_end (Ok done) told fails = (told.0, of_policy told.0 told.1, told.2)
-  rights_end (Err failure) told fails = (fails.0, of_policy fails.0 fails.1, fails.2)
+      × FailsToTell (IsText text) (IsReason text) out out' failure)
+      → EndsTold texts policy IsText IsReason out out' (ended r)
+  told_end (Ok done) told fails = (told.0, of_source texts read told.0 told.1, told.2)
+  told_end (Err failure) told fails = (fails.0, of_source texts read fails.0 fails.1, fails.2)
+
+module _ (texts : Option (List ℕ) → Option (List ℕ)) (order : RightsOrder) (old profile : List ℕ)
+    (left left' out out' : Option (List ℕ)) (read : left ≡ texts (Some old))
+    (read' : left' ≡ texts (Some order.policy)) where
+  pub difference_end : (r : Result Conclusion Failure)
+      → IfOk r (λ conclusion. (was is : List ℕ) × IfSome left (λ told. was ≡ told) × IfSome left' (λ told. is ≡ told)
+      × Writes out out' (IsDifferenceSo order old profile was is conclusion))
+      → IfErr r (λ failure. (was is : List ℕ) × IfSome left (λ told. was ≡ told) × IfSome left' (λ told. is ≡ told)
+      × TellsNoDifference order old profile was is out out' failure)
+      → EndsDifference texts order old profile out out' r
+  difference_end (Ok conclusion) told fails =
+      (told.0, told.1, of_source texts read told.0 told.2, of_source texts read' told.1 told.3, told.4)
+  difference_end (Err failure) told fails =
+      (fails.0, fails.1, of_source texts read fails.0 fails.2, of_source texts read' fails.1 fails.3, fails.4)

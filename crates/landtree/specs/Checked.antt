@@ -4,7 +4,7 @@ use Rattle.std.specs.Io.KnownBytes.{Keeps}
 use Rattle.ll_rights.specs.declared.limits.TheConstants.{TREE_NODES}
 use Rattle.ll_program.specs.Options.{CheckOrder, ExportOrder}
 use Rattle.ll_program.specs.declared.conclusion.Conclusion.{Conclusion}
-use Rattle.ll_program.specs.declared.conclusion.Conclusion.TheVariants.{Checked, Done, Judged, Stopped}
+use Rattle.ll_program.specs.declared.conclusion.Conclusion.TheVariants.{Checked, Differs, Done, Judged, Stopped}
 use Rattle.ll_program.specs.declared.checked.Checked.TheVariants.{Passed}
 use Rattle.ll_program.specs.declared.report.ReportForm.TheVariants.{Text}
 use Rattle.ll_program.specs.declared.failure.Failure.{Failure}
@@ -39,6 +39,7 @@ EndsChecked texts order out out' (Ok (Judged verdict)) = ⊥
 EndsChecked texts order out out' (Ok (Checked end)) =
     (policy : List ℕ) × IsPolicyText texts (Some order.policy) policy
     × IsCheckedUnder texts (check_of order) policy end × (end ≢ Passed)
+EndsChecked texts order out out' (Ok Differs) = ⊥
 EndsChecked texts order out out' (Err failure) = ⊤
 
 -- An export that ends well wrote a text, of the policy that is named. Otherwise nothing is written, or a prefix of one

@@ -11,7 +11,7 @@ use Rattle.ll_program.specs.Failure.{EndsAudit, EndsExport}
 use Rattle.ll_program.specs.Policy.{EndsRun}
 use Rattle.ll_program.specs.Sources.{named}
 use Rattle.ll_check.specs.Ends.{EndsCheck}
-use Rattle.ll_commands.specs.Rights.{EndsRights}
+use Rattle.ll_commands.specs.RightsEnd.{EndsRights}
 use Rattle.ll_commands.specs.Schedules.{EndsSchedule}
 use Rattle.ll_commands.specs.Serving.{EndsServe}
 use Rattle.ll_commands.specs.Why.{EndsWhy}

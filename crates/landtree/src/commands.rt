@@ -4,11 +4,10 @@ ghost use Rattle.std.specs.Prelude.{◌≡◌, ℕ, true, false, List, Option, N
 ghost use Rattle.std.specs.Prelude.{OnOk, option_map};
 ghost use Rattle.std.specs.Io.KnownBytes.{Appends};
 ghost use Rattle.ll_program.specs.Sources.{named, text_in};
-ghost use Rattle.ll_program.specs.Options.{asked_by, fits, fits_rights, fits_schedule, fits_why};
-ghost use Rattle.ll_program.specs.Options.{fits_serve, order_in, rights_in, scheduled_in, served_in, why_in};
+ghost use Rattle.ll_program.specs.Options.{asked_by, fits, fits_schedule, fits_why};
+ghost use Rattle.ll_program.specs.Options.{fits_serve, order_in, scheduled_in, served_in, why_in};
 ghost use Rattle.ll_program.specs.Failure.{EndsAudit, FailsAudit};
 ghost use Rattle.ll_program.specs.Policy.{EndsRun, IsRun, MayFail};
-ghost use Rattle.ll_commands.specs.Rights.{EndsRights};
 ghost use Rattle.ll_commands.specs.Why.{EndsWhy, file_asked};
 ghost use Rattle.ll_commands.specs.Schedules.{EndsSchedule};
 ghost use Rattle.ll_commands.specs.Serving as serving;
@@ -20,12 +19,11 @@ use crate::hints::Hints;
 use crate::misfits::Misfit;
 use ll_audit::Verdict;
 use ll_commands::{
-    Binds, Film, Log, conclude_schedule, film_by, schedule, schedule_drawn, serve, tell_rights,
-    tell_why,
+    Binds, Film, Log, conclude_schedule, film_by, schedule, schedule_drawn, serve, tell_why,
 };
 use ll_program::{
-    Clash, Conclusion, Device, Failure, Late, NewFile, Purpose, Question, RightsOptions,
-    RunOptions, ScheduleOptions, ServeOptions, Shown, Sources, WhyOptions, audit, named, run,
+    Clash, Conclusion, Device, Failure, Late, NewFile, Purpose, Question, RunOptions,
+    ScheduleOptions, ServeOptions, Shown, Sources, WhyOptions, audit, named, run,
 };
 use ll_wire::Destination;
 use std::alloc::Global;
@@ -187,6 +185,18 @@ fn hint_at_steps(film: &Film, hints: &mut Hints) {
     }
 }
 
+// Adds that a picture shows no line, since its first would come behind the schedule's last.
+fn hint_at_picture(alloc: Global, film: &Film, hints: &mut Hints) {
+    let (from, lines) = (film.window.from, film.lines);
+    if from > lines
+        && let Ok(told) = format!(in alloc;
+            "the picture is empty: it begins at line {from} of {lines}"
+        )
+    {
+        hints.add(&told);
+    }
+}
+
 // Runs the schedule in this input, and adds hints.
 fn perform_told<R: Read, W: Write>(
     rt: &HostRuntime,
@@ -225,6 +235,7 @@ fn perform_drawn<R: Read, W: Write>(
     match schedule_drawn(rt.alloc(), options, input, out, film, &mut picture) {
         Ok(drawn) => {
             hints.of_output(&picture);
+            hint_at_picture(rt.alloc(), &drawn.film, hints);
             hint_at_steps(&drawn.film, hints);
             match drawn.saved {
                 Ok(()) => conclude_schedule(rt.alloc(), options.file, drawn.halt),
@@ -299,58 +310,6 @@ pub fn schedule_options<S: Sources, W: Write>(
     perform_file(rt, sources, options, out, hints)
 }
 
-// Writes the rights of a policy's profile.
-fn tell_file<S: Sources, W: Write>(
-    rt: &HostRuntime,
-    sources: &S,
-    options: &RightsOptions,
-    out: &mut W,
-    hints: &mut Hints,
-) -> Result<Conclusion, Failure>
-    ensures { EndsRights (S.texts sources.now) (rights_in options.now) (W.contents out.old) (W.contents out.new)
-        result }
-{
-    let mut file = Late::keeping(
-        rt.alloc(),
-        sources,
-        Some(options.policy),
-        hints.are_wanted(),
-    );
-    let told = tell_rights(rt.alloc(), options, &mut file, out);
-    hints.of_input("policy", &file);
-    match told {
-        Ok(()) => Ok(Conclusion::Done),
-        Err(failure) => {
-            hints.of_rights(options, &failure, file.text());
-            Err(failure)
-        }
-    }
-}
-
-// Runs `rights`.
-pub fn rights_options<S: Sources, W: Write>(
-    rt: &HostRuntime,
-    sources: &S,
-    options: &RightsOptions,
-    out: &mut W,
-    hints: &mut Hints,
-) -> Result<Conclusion, Failure>
-    ensures unfit { fits_rights (rights_in options.now) ≡ false
-        → (result ≡ Err Failure.CommandLine) × (W.contents out.new ≡ W.contents out.old) }
-    ensures rights { fits_rights (rights_in options.now) ≡ true
-        → EndsRights (S.texts sources.now) (rights_in options.now) (W.contents out.old) (W.contents out.new) result }
-{
-    if !options.fit() {
-        hints.of_misfit(Some(Misfit::NoSuchAnswer));
-        return Err(Failure::CommandLine);
-    }
-    let ended = tell_file(rt, sources, options, out, hints);
-    if ended.is_err() {
-        hints.of_misfit(Misfit::of_rights(rt.alloc(), options));
-    }
-    ended
-}
-
 // Returns the file that is asked about: a history's, or a policy's. None for standard input.
 fn file_asked<'a>(options: &WhyOptions<'a>) -> Option<&'a str>
     ensures { option_map (λ name. name.now) result ≡ file_asked (asked_by (why_in options.now)) }
@@ -376,7 +335,7 @@ pub fn why_options<S: Sources, W: Write>(
         → EndsWhy (S.texts sources.now) (why_in options.now) (W.contents out.old) (W.contents out.new) result }
 {
     if !options.fit() {
-        hints.of_misfit(Some(Misfit::NeitherEntryNorCommand));
+        hints.of_misfit(Some(Misfit::of_why(options)));
         return Err(Failure::CommandLine);
     }
     let mut file = Late::keeping(rt.alloc(), sources, file_asked(options), hints.are_wanted());

@@ -13,7 +13,7 @@ use ll_commands::flaw_of;
 use ll_policy::{PlacedFault, Policy, policy_faults, read_document, toml_trouble};
 use ll_program::{Failure, Late, NewFile, Sources, body_of, is_silent};
 use ll_rights::Errno;
-use ll_why::{explain_entry, why_not};
+use ll_why::{WhyStyle, explain_entry, why_not};
 use ll_wire::{Header, escaped, read_command, read_schedule_line, shown, split_line, write_whole};
 use std::alloc::{AllocError, Global};
 use std::fmt::Display;
@@ -353,14 +353,20 @@ impl Hints {
         }
     }
 
-    /// Adds which call is refused when a tree is opened with this policy, and its reply, if one is: one that creates
-    /// the policy's nodes, or one of the profile asked for.
-    pub fn of_opening(&mut self, given: &Given<'_>) {
+    // Adds which call is refused when a tree is opened with this policy, and its reply, if one is: one that creates the
+    // policy's nodes, or one of this profile.
+    fn of_refusal(&mut self, policy: &Policy, given: &Given<'_>, profile: Option<&str>) {
         if self.are_missing()
-            && let Some(policy) = policy_of(self.alloc, given.text)
-            && let Ok(Some(refused)) = refused_text(self.alloc, &policy, given)
+            && let Ok(Some(refused)) = refused_text(self.alloc, policy, given, profile)
         {
             let _ = self.push_named(given.name, refused.as_str());
+        }
+    }
+
+    /// Adds which call is refused when a tree is opened with this policy, for the profile asked for, if one is.
+    pub fn of_opening(&mut self, given: &Given<'_>) {
+        if let Some(policy) = policy_of(self.alloc, given.text) {
+            self.of_refusal(&policy, given, given.profile);
         }
     }
 
@@ -374,6 +380,38 @@ impl Hints {
             Failure::CommandLine => self.of_profile(given),
             Failure::Opening => self.of_opening(given),
             Failure::File | Failure::Output | Failure::Socket | Failure::NoMemory => {}
+        }
+    }
+
+    /// Adds that the policy has no profile, if so.
+    pub fn of_no_profile(&mut self, given: &Given<'_>) {
+        if self.is_wanted
+            && let Some(policy) = policy_of(self.alloc, given.text)
+            && let Ok(names) = policy.names(self.alloc)
+            && names.is_empty()
+        {
+            let name = given.name;
+            if let Ok(told) = format!(in self.alloc; "the policy {name} has no profile") {
+                let _ = self.push(told.as_str());
+            }
+        }
+    }
+
+    // Adds which call of the first of these profiles that has one is refused.
+    fn of_refusals(&mut self, policy: &Policy, given: &Given<'_>, profiles: &[&str]) {
+        for profile in profiles {
+            self.of_refusal(policy, given, Some(profile));
+        }
+    }
+
+    /// Adds why a command for all profiles failed, if this policy is the reason: it has a fault, or a call is refused.
+    pub fn of_all_profiles(&mut self, failure: &Failure, given: &Given<'_>) {
+        self.of_failure(failure, given);
+        if let Failure::Opening = failure
+            && let Some(policy) = policy_of(self.alloc, given.text)
+            && let Ok(profiles) = policy.names(self.alloc)
+        {
+            self.of_refusals(&policy, given, profiles.as_slice());
         }
     }
 
@@ -542,7 +580,13 @@ impl Notes for Hints {
         };
         let line = test.line;
         let command = test.command;
-        if let Ok(Some(text)) = explain_entry(self.alloc, header, test.entries, test.number)
+        if let Ok(Some(text)) = explain_entry(
+            self.alloc,
+            WhyStyle::Lines,
+            header,
+            test.entries,
+            test.number,
+        )
             && let Ok(place) = format!(in self.alloc; "{file}:{line}")
             && let Ok(told) = format!(in self.alloc; "{command}\n{text}")
         {

@@ -10,6 +10,7 @@ mod lessons;
 mod misfits;
 mod reasons;
 mod refusal;
+mod rights;
 mod wanted;
 
 ghost use Rattle.std.specs.Prelude.{◌≡◌, ◌⊎◌, [], map, Some, Err, IfErr, IfNone, IfSome, OnOk};
@@ -19,13 +20,12 @@ ghost use Rattle.ll_program.specs.Failure.{failure_by};
 ghost use Rattle.landtree.specs.Ends.{Ends};
 
 use checks::{check_options, export_options};
-use commands::{
-    audit_file, rights_options, run_options, schedule_options, serve_options, why_options,
-};
+use commands::{audit_file, run_options, schedule_options, serve_options, why_options};
 use hints::Hints;
 use lessons::learn_options;
 use ll_commands::{Binds, Loopback};
 use ll_program::{Conclusion, Failure, Options, Sources, Standard, concluded};
+use rights::rights_options;
 use std::io::{IsTerminal, Write};
 use std::process::ExitCode;
 use std::sync::Wait;

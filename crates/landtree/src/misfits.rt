@@ -3,7 +3,7 @@
 use ll_path::{Path, Word};
 use ll_program::{
     CheckOptions, ExportOptions, ReportForm, RightsOptions, RunOptions, ScheduleOptions,
-    ServeOptions,
+    ServeOptions, WhyOptions,
 };
 use std::alloc::Global;
 use std::fmt;
@@ -33,6 +33,9 @@ pub enum Misfit<'a> {
     RelativePath(&'static str, &'a str),
     /// The form of an answer.
     NoSuchAnswer,
+    /// The words of `rights` don't say whose.
+    NoScope,
+    LayersOfDifference,
     /// This word of `rights` is no path.
     NoPath(&'a str),
     /// The words of `why` give neither an entry nor a command.
@@ -82,6 +85,10 @@ impl Display for Misfit<'_> {
                 "{word} is no path: / is expected, or / and a name again and again"
             ),
             Misfit::NoSuchAnswer => f.write_str("--as is followed by json"),
+            Misfit::NoScope => f.write_str(
+                "rights takes --profile NAME, --profile NAME with --diff OLD, or --all-profiles",
+            ),
+            Misfit::LayersOfDifference => f.write_str("--layers has no place beside --diff"),
             Misfit::NoSuchForm => f.write_str("--as is followed by c or json"),
             Misfit::NoSuchDenial => f.write_str(
                 "--deny is followed by some of tcp,ioctl_dev,signal,abstract_unix_socket",
@@ -190,14 +197,34 @@ impl<'a> Misfit<'a> {
         ))
     }
 
-    /// Returns the misfit in the words of `rights`: the first word that is no path.
-    pub fn of_rights(alloc: Global, options: &RightsOptions<'a>) -> Option<Misfit<'a>> {
+    /// Returns the misfit in the words of `rights`.
+    pub fn of_rights(options: &RightsOptions<'a>) -> Misfit<'a> {
+        if options.form.is_none() {
+            Misfit::NoSuchAnswer
+        } else if options.scope.is_none() {
+            Misfit::NoScope
+        } else {
+            Misfit::LayersOfDifference
+        }
+    }
+
+    /// Returns the first word of `rights` that should be a path and is none.
+    pub fn of_paths(alloc: Global, options: &RightsOptions<'a>) -> Option<Misfit<'a>> {
         for word in &options.paths {
             if !is_path(alloc, word) {
                 return Some(Misfit::NoPath(word));
             }
         }
         None
+    }
+
+    /// Returns the misfit in the words of `why`, which don't fit together or ask for a form that is unknown.
+    pub fn of_why(options: &WhyOptions<'a>) -> Misfit<'a> {
+        if options.form.is_none() {
+            Misfit::NoSuchAnswer
+        } else {
+            Misfit::NeitherEntryNorCommand
+        }
     }
 
     /// Returns the misfit in the words of `export`.

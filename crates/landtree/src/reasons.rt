@@ -5,7 +5,8 @@ use crate::hints::Hints;
 use ll_check::LinesOf;
 use ll_program::{
     CheckOptions, CommandQuestion, Conclusion, ExportOptions, Failure, Late, LearnOptions,
-    Question, RightsOptions, RunOptions, ScheduleOptions, ServeOptions, Sources, WhyOptions,
+    OldPolicy, Question, RightsOptions, RunOptions, ScheduleOptions, ServeOptions, Sources,
+    WhyOptions,
 };
 use ll_rights::limits::{HISTORY_ENTRIES, TREE_NODES};
 
@@ -98,12 +99,57 @@ impl Hints {
         }
     }
 
-    /// Adds hints for `rights`: the policy is the reason.
-    pub fn of_rights(&mut self, options: &RightsOptions, failure: &Failure, text: Option<&[u8]>) {
-        let (policy, profile) = (Some(options.policy), Some(options.profile));
+    /// Adds hints for `rights` of a profile: the policy is the reason.
+    pub fn of_rights(
+        &mut self,
+        options: &RightsOptions,
+        profile: &str,
+        ended: &Result<(), Failure>,
+        text: Option<&[u8]>,
+    ) {
+        let (policy, profile) = (Some(options.policy), Some(profile));
         let given = Given::new(policy, text, profile, options.nodes, HISTORY_ENTRIES);
-        if let Some(given) = given {
+        if let Err(failure) = ended
+            && let Some(given) = given
+        {
             self.of_failure(failure, &given);
+        }
+    }
+
+    /// Adds hints for `rights` of all profiles: the policy has none, or it is the reason.
+    pub fn of_all_rights<'x>(
+        &mut self,
+        options: &RightsOptions<'x>,
+        ended: &Result<(), Failure>,
+        text: Option<&'x [u8]>,
+    ) {
+        let (policy, nodes) = (Some(options.policy), options.nodes);
+        let Some(given) = Given::new(policy, text, None, nodes, HISTORY_ENTRIES) else {
+            return;
+        };
+        match ended {
+            Ok(()) => self.of_no_profile(&given),
+            Err(failure) => self.of_all_profiles(failure, &given),
+        }
+    }
+
+    /// Adds hints for `rights` of two policies: one of them is the reason, the old one first.
+    pub fn of_change(
+        &mut self,
+        options: &RightsOptions,
+        compared: &OldPolicy,
+        ended: &Result<Conclusion, Failure>,
+        old_text: Option<&[u8]>,
+        text: Option<&[u8]>,
+    ) {
+        let Err(failure) = ended else {
+            return;
+        };
+        let (nodes, profile) = (options.nodes, Some(compared.profile));
+        for (name, text) in [(compared.old, old_text), (options.policy, text)] {
+            if let Some(given) = Given::new(Some(name), text, profile, nodes, HISTORY_ENTRIES) {
+                self.of_failure(failure, &given);
+            }
         }
     }
 

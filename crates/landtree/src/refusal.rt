@@ -257,6 +257,7 @@ pub(crate) fn refused_text(
     alloc: Global,
     policy: &Policy,
     given: &Given<'_>,
+    profile: Option<&str>,
 ) -> Result<Option<String>, AllocError> {
     let rules = Rules {
         abi: policy.abi(),
@@ -272,10 +273,10 @@ pub(crate) fn refused_text(
     if let Some(stop) = come(&mut tree, &mut room, nodes.as_slice()) {
         return Ok(Some(stop_text(alloc, &ground, Comer::Loader, &stop)?));
     }
-    let profile = Comer::Profile(given.profile.unwrap_or(""));
-    let calls = profile_calls(alloc, policy, given.profile)?;
+    let comer = Comer::Profile(profile.unwrap_or(""));
+    let calls = profile_calls(alloc, policy, profile)?;
     match come(&mut tree, &mut room, calls.as_slice()) {
-        Some(stop) => Ok(Some(stop_text(alloc, &ground, profile, &stop)?)),
+        Some(stop) => Ok(Some(stop_text(alloc, &ground, comer, &stop)?)),
         None => Ok(None),
     }
 }
