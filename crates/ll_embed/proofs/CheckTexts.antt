@@ -8,7 +8,8 @@ use Rattle.ll_program.specs.declared.conclusion.Conclusion.TheVariants as conclu
 use Rattle.ll_program.specs.declared.failure.Failure.{Failure}
 use Rattle.ll_check.specs.Files.{IsCheck, MayFail, Source}
 use Rattle.ll_wire.specs.Transcript.{Writes}
-use Rattle.ll_embed.specs.CheckAnswers.{CheckAsked, CheckFits, IsCheckTold, MayFailCheck, fault_at, order_of}
+use Rattle.ll_embed.specs.Answers.{fault_at}
+use Rattle.ll_embed.specs.CheckAnswers.{CheckAsked, CheckFits, IsCheckTold, MayFailCheck, order_of}
 use Rattle.ll_embed.specs.CheckAnswers.{source_in}
 
 -- the program's check fails

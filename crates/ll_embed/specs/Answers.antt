@@ -19,10 +19,13 @@ use Rattle.ll_audit.specs.declared.verdict.Verdict.{Verdict}
 use Rattle.ll_audit.specs.declared.verdict.Verdict.TheVariants as verdict
 use Rattle.ll_why.specs.Entries.{IsHistoryWhy}
 use Rattle.ll_why.specs.declared.history.HistoryWhy.TheVariants as why
+use Rattle.ll_why.specs.declared.style.WhyStyle.TheVariants.{Lines}
 use Rattle.ll_policy.specs.Faults.{document_faults}
 use Rattle.ll_policy.specs.Plan.{Plan, IsPlanOf}
 use Rattle.ll_policy.specs.declared.fault.PolicyFault.{PolicyFault}
 use Rattle.ll_policy.specs.declared.fault.PolicyFault.TheVariants.{NotToml}
+use Rattle.ll_program.specs.declared.failure.Failure.{Failure}
+use Rattle.ll_program.specs.declared.failure.Failure.TheVariants as failures
 use Rattle.ll_session.specs.Run.{MayEnd}
 use Rattle.ll_session.specs.declared.fault.RunFault.{RunFault}
 use Rattle.ll_session.specs.declared.fault.RunFault.TheVariants as run
@@ -142,6 +145,16 @@ fault_in run.Opening = Opening
 fault_in (run.Session session.TooLong) = TooLong
 fault_in (run.Session fault) = NoMemory
 
+-- what the program's failure is here. Texts of memory can't be read or written only if memory runs out
+abbrev pub fault_at : Failure → Fault
+fault_at failures.CommandLine = NoProfile
+fault_at (failures.Policy fault) = Policy fault
+fault_at failures.Opening = Opening
+fault_at failures.File = NoMemory
+fault_at failures.Output = NoMemory
+fault_at failures.Socket = NoMemory
+fault_at failures.NoMemory = NoMemory
+
 -- why no tree is set up so, or nothing is run in it. A script is too long if it has a billion bytes
 abbrev pub MayFail : Order → Fault → Type 0
 MayFail o Misfit = Fits o → ⊥
@@ -203,15 +216,15 @@ AuditAnswers history status text =
 -- why an entry of a history was answered so, or the history's first bad line
 abbrev pub IsEntryTold : (history : List ℕ) (number : ℕ) → (status : ℕ) → (text : List ℕ) → Type 0
 IsEntryTold history number status text =
-    ((told : String Global) × IsHistoryWhy (pieces history) number (why.Told told) × (text ≡ string_bytes told)
+    ((told : String Global) × IsHistoryWhy Lines (pieces history) number (why.Told told) × (text ≡ string_bytes told)
     × (status ≡ 0))
-    ⊎ ((line : ℕ) × IsHistoryWhy (pieces history) number (why.BadLine line)
+    ⊎ ((line : ℕ) × IsHistoryWhy Lines (pieces history) number (why.BadLine line)
     × (text ≡ verdict_line (verdict.BadLine line)) × (status ≡ 3))
 
 abbrev pub EntryAnswers : (history : List ℕ) (number : ℕ) → (status : ℕ) → (text : List ℕ) → Type 0
 EntryAnswers history number status text =
     IsEntryTold history number status text
-    ⊎ (IsHistoryWhy (pieces history) number why.NoEntry × (status ≡ status_of NoEntry))
+    ⊎ (IsHistoryWhy Lines (pieces history) number why.NoEntry × (status ≡ status_of NoEntry))
     ⊎ (status ≡ status_of NoMemory)
 
 -- whether a policy is right: without a text if it is

@@ -9,13 +9,12 @@ use Rattle.ll_program.specs.declared.checked.Checked.{Checked}
 use Rattle.ll_program.specs.declared.checked.Checked.TheVariants.{BadLine}
 use Rattle.ll_program.specs.declared.conclusion.Conclusion.TheVariants as conclusion
 use Rattle.ll_program.specs.declared.failure.Failure.{Failure}
-use Rattle.ll_program.specs.declared.failure.Failure.TheVariants as failures
 use Rattle.ll_program.specs.declared.report.ReportForm.{ReportForm}
 use Rattle.ll_program.specs.declared.report.ReportForm.TheVariants.{Json, Junit, Tap, Text}
 use Rattle.ll_check.specs.Files.{IsCheck, MayFail, Source}
-use Rattle.ll_embed.specs.Answers.{status_of}
+use Rattle.ll_embed.specs.Answers.{fault_at, status_of}
 use Rattle.ll_embed.specs.declared.fault.Fault.{Fault}
-use Rattle.ll_embed.specs.declared.fault.Fault.TheVariants.{Misfit, NoMemory, NoProfile, Opening, Policy}
+use Rattle.ll_embed.specs.declared.fault.Fault.TheVariants.{Misfit, NoMemory}
 use Rattle.ll_embed.specs.declared.file_check.CheckGiven.{CheckGiven}
 
 -- the numbers and texts of a check: those that set its trees up, the form of its report, a file's name and its text
@@ -82,16 +81,6 @@ pub record CheckFits (a : CheckAsked) : Type 0 where
   pub profile : IsUtf8 a.profile
   pub name : IsUtf8 a.name
   pub together : fits_check (order_of a) ≡ true
-
--- what the program's failure is here. Texts of memory can't be read or written only if memory runs out
-abbrev pub fault_at : Failure → Fault
-fault_at failures.CommandLine = NoProfile
-fault_at (failures.Policy fault) = Policy fault
-fault_at failures.Opening = Opening
-fault_at failures.File = NoMemory
-fault_at failures.Output = NoMemory
-fault_at failures.Socket = NoMemory
-fault_at failures.NoMemory = NoMemory
 
 -- why nothing is checked to the end: the words are wrong; the program's check may fail so; or memory ran out
 abbrev pub MayFailCheck : CheckAsked → Fault → Type 0

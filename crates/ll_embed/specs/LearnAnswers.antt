@@ -6,8 +6,7 @@ use Rattle.std.specs.Str.Lines.{lines}
 use Rattle.ll_rights.specs.Access.{access_text}
 use Rattle.ll_rights.specs.declared.access.Access.{Access}
 use Rattle.ll_rights.specs.declared.limits.TheConstants.{RULESET_INODES}
-use Rattle.ll_path.specs.Path.{path_of_text, path_refusals}
-use Rattle.ll_path.specs.Word.{IsWord}
+use Rattle.ll_path.specs.Path.{path_of_text}
 use Rattle.ll_policy.specs.Value.{is_name}
 use Rattle.ll_learn.specs.SavedLesson.{IsLearnedBy, line_in, reason}
 use Rattle.ll_learn.specs.declared.fault.Unlearned.{Unlearned}
@@ -16,6 +15,7 @@ use Rattle.ll_learn.specs.declared.saved_lesson.Learned.{Learned}
 use Rattle.ll_learn.specs.declared.saved_lesson.Learned.TheVariants.{BadLine, Many, Nothing, Profile}
 use Rattle.ll_learn.specs.declared.saved_lesson.SavedLesson.{SavedLesson}
 use Rattle.ll_embed.specs.Answers.{status_of}
+use Rattle.ll_embed.specs.Lines.{LacksPath}
 use Rattle.ll_embed.specs.declared.fault.Fault.TheVariants.{Misfit, NoMemory}
 use Rattle.ll_embed.specs.declared.learned_profile.LearnGiven.{LearnGiven}
 
@@ -72,17 +72,6 @@ pub record IsLessonOf (o : LearnOrder) (lesson : SavedLesson) : Type 0 where
 abbrev pub LacksRights : List ℕ → Type 0
 LacksRights text =
     (text ≢ []) × ((IsUtf8 text → ⊥) ⊎ ((set : ℕ) → set < 2 ^ 64 → text ≢ access_text set))
-
--- the line spells no path
-abbrev pub IsNoPath : List ℕ → Type 0
-IsNoPath line = (IsWord line → ⊥) ⊎ (path_refusals line ≢ [])
-
-abbrev pub HasNoPath : List (List ℕ) → Type 0
-HasNoPath [] = ⊥
-HasNoPath (line ∷ lines) = IsNoPath line ⊎ HasNoPath lines
-
-abbrev pub LacksPath : List ℕ → Type 0
-LacksPath text = (IsUtf8 text → ⊥) ⊎ HasNoPath (lines text)
 
 abbrev pub IsNoName : List ℕ → Type 0
 IsNoName name = (IsUtf8 name → ⊥) ⊎ (is_name (name_by name) ≢ true)

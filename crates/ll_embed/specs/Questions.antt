@@ -1,129 +1,118 @@
 -- What landtree_rights and landtree_why answer: questions about the profile of a policy. own
-use Rattle.std.specs.Prelude.{◌≡◌, ◌⊎◌, ⊤, ℕ, true, false, List, [], ◌∷◌, Option, Some, None, ◌==◌, if◌then◌else◌}
-use Rattle.std.specs.Prelude.{slice_get}
-use Rattle.std.specs.List.{AllZip}
-use Rattle.std.specs.Option.{option_map_or}
-use Rattle.ll_path.specs.Path.{Path, path_of_text, path_refusals}
-use Rattle.ll_path.specs.Word.{IsWord}
-use Rattle.ll_seq.specs.declared.call.Call.{Call}
-use Rattle.ll_seq.specs.declared.reply.Reply.{Reply}
-use Rattle.ll_seq.specs.Step.{client_of}
-use Rattle.ll_wire.specs.Pieces.{pieces}
-use Rattle.ll_why.specs.CallWhy.{IsCallWhy, IsCommand}
-use Rattle.ll_why.specs.PathRows.{AreRows, paths_or_nodes}
-use Rattle.ll_why.specs.declared.path_rows.RowStyle.{RowStyle}
-use Rattle.ll_why.specs.declared.path_rows.RowStyle.TheVariants as style
-use Rattle.ll_session.specs.Opening.{Opens, begun, refused, stopped}
-use Rattle.ll_session.specs.PartySession.{Session}
+use Rattle.std.specs.Prelude.{◌≡◌, ◌≢◌, ◌⊎◌, ◌<◌, ◌≤◌, ⊤, ℕ, List, [], ◌∷◌, ◌++◌, Option, Some, None, ◌==◌, codes}
+use Rattle.std.specs.Prelude.{if◌then◌else◌}
+use Rattle.std.specs.Str.{IsUtf8}
+use Rattle.std.specs.Str.Lines.{lines}
+use Rattle.ll_rights.specs.declared.limits.TheConstants.{TREE_NODES}
+use Rattle.ll_program.specs.Options.{TreeOrder, profile_tree}
+use Rattle.ll_program.specs.Policy.{IsSetup, Lacks}
+use Rattle.ll_program.specs.Rights.{RightsOrder, of_profile}
+use Rattle.ll_program.specs.declared.failure.Failure.{Failure}
+use Rattle.ll_program.specs.declared.failure.Failure.TheVariants as failures
+use Rattle.ll_program.specs.declared.report.AnswerForm.{AnswerForm}
+use Rattle.ll_program.specs.declared.report.AnswerForm.TheVariants.{Json}
 use Rattle.ll_session.specs.declared.setup.Setup.{Setup}
-use Rattle.ll_program.specs.Comments.{body_of}
+use Rattle.ll_commands.specs.Opening.{IsStopped}
+use Rattle.ll_commands.specs.Rights.{IsTable}
+use Rattle.ll_commands.specs.Why.{IsCommandWhy}
+use Rattle.ll_why.specs.declared.style.WhyStyle.TheVariants.{Lines}
 use Rattle.ll_embed.specs.Answers as answers
-use Rattle.ll_embed.specs.Answers.{IsSetup, Order}
+use Rattle.ll_embed.specs.Answers.{fault_at}
+use Rattle.ll_embed.specs.Lines.{LacksCommand, LacksPath}
 use Rattle.ll_embed.specs.declared.ask_fault.AskFault.{AskFault}
 use Rattle.ll_embed.specs.declared.ask_fault.AskFault.TheVariants.{PolicyMissing, ProfileMissing, Tree, WrongCommand}
 use Rattle.ll_embed.specs.declared.ask_fault.AskFault.TheVariants.{WrongForm, WrongPath}
-use Rattle.ll_embed.specs.declared.fault.Fault.{Fault}
+use Rattle.ll_embed.specs.declared.asked.ProfileGiven.{ProfileGiven}
 use Rattle.ll_embed.specs.declared.fault.Fault.TheVariants as faults
 
 -- ---- the tree that is asked about
 
--- a policy and a profile are given
-abbrev pub AreGiven : Order → Type 0
-AreGiven o = (o.policy ≡ [] → ⊥) × (o.profile ≡ [] → ⊥)
+-- a policy, one of its profiles, and the limit of live nodes
+pub record ProfileOrder : Type 0 where
+  pub nodes : ℕ
+  pub policy : List ℕ
+  pub profile : List ℕ
 
--- the tree that the policy opens for the first client, which has the profile
-pub record OpensFirst (o : Order) (setup : Setup) (first : Session) (client : ℕ) : Type 0 where
-  pub given : AreGiven o
-  pub is_setup : IsSetup o setup
-  pub opens : Opens setup (begun first)
-  pub is_first : slice_get first.clients 0 ≡ Some client
+abbrev pub profile_order_in : ProfileGiven → ProfileOrder
+profile_order_in g = record { nodes = g.nodes; policy = g.policy.now; profile = g.profile.now }
 
--- a call that the policy asks for is refused
-abbrev pub IsShut : Setup → Type 0
-IsShut setup = Opens setup stopped ⊎ ((reply : Reply) × (last : Session) × Opens setup (refused reply last))
+-- both texts are given, the profile's is UTF-8, and the number is within its bounds
+pub record IsAsked (o : ProfileOrder) : Type 0 where
+  pub policy : o.policy ≢ []
+  pub profile : o.profile ≢ []
+  pub utf8 : IsUtf8 o.profile
+  pub some : 1 ≤ o.nodes
+  pub most : o.nodes ≤ TREE_NODES
+
+-- the tree that the program's words ask for, if the file of this name has the policy
+abbrev pub tree_asked : ProfileOrder → TreeOrder
+tree_asked o = profile_tree (codes "policy") o.profile o.nodes
 
 -- why there is no such tree
-abbrev pub MayLack : Order → Fault → Type 0
-MayLack o faults.Opening = (setup : Setup) × IsSetup o setup × IsShut setup
-MayLack o fault = answers.MayFail o fault
+abbrev pub LacksTree : ProfileOrder → AskFault → Type 0
+LacksTree o PolicyMissing = o.policy ≡ []
+LacksTree o ProfileMissing = o.profile ≡ []
+LacksTree o (Tree faults.Misfit) = 1 ≤ o.nodes → o.nodes ≤ TREE_NODES → ⊥
+LacksTree o (Tree faults.NoProfile) = (IsUtf8 o.profile → ⊥) ⊎ Lacks (tree_asked o) o.policy failures.CommandLine
+LacksTree o (Tree (faults.Policy fault)) = Lacks (tree_asked o) o.policy (failures.Policy fault)
+LacksTree o (Tree faults.Opening) = (setup : Setup) × IsSetup (tree_asked o) o.policy setup × IsStopped setup
+LacksTree o (Tree faults.NoMemory) = ⊤
+LacksTree o fault = ⊥
 
 abbrev pub ask_status : AskFault → ℕ
 ask_status (Tree fault) = answers.status_of fault
 ask_status fault = 2
 
--- ---- the paths
-
-abbrev pub IsPath : List ℕ → Type 0
-IsPath word = IsWord word × (path_refusals word ≡ [])
-
--- the line names the path
-abbrev pub Names : List ℕ → Path → Type 0
-Names line path = IsPath (body_of line) × (path ≡ path_of_text (body_of line))
-
--- each line of the text names one of the paths, in order
-abbrev pub AreNamed : List ℕ → List Path → Type 0
-AreNamed text paths = AllZip Names (pieces text) paths
-
--- a line names no path
-abbrev pub NameNone : List (List ℕ) → Type 0
-NameNone [] = ⊥
-NameNone (line ∷ lines) = (IsPath (body_of line) → ⊥) ⊎ NameNone lines
-
--- why a text gives no paths
-abbrev pub IsOfNames : AskFault → Type 0
-IsOfNames WrongPath = ⊤
-IsOfNames (Tree faults.NoMemory) = ⊤
-IsOfNames fault = ⊥
+-- what the program's failure at a text's lines is here, which are wrong like this
+abbrev pub fault_of_lines : Failure → (wrong : AskFault) → AskFault
+fault_of_lines failures.CommandLine wrong = wrong
+fault_of_lines failure wrong = Tree (fault_at failure)
 
 -- ---- the table of rights
 
-abbrev pub style_by : ℕ → Option RowStyle
-style_by form =
-    if form == 0 then Some (style.Line false) else if form == 1 then Some (style.Line true)
-    else if form == 2 then Some style.Json else None
+abbrev pub answer_form : ℕ → Option AnswerForm
+answer_form form = if form == 2 then Some Json else None
 
-abbrev pub loader_calls : Setup → List Call
-loader_calls setup = option_map_or (λ calls. calls.items) setup.loader []
+-- the program's words that ask for the same
+abbrev pub rights_order : ProfileOrder → (form : ℕ) (names : List ℕ) → RightsOrder
+rights_order o form names = record {
+  policy = codes "policy";
+  scope = Some (of_profile o.profile);
+  nodes = o.nodes;
+  paths = lines names;
+  layers = form == 1;
+  form = answer_form form;
+}
 
--- the table for the paths in the text, or without any for the policy's nodes
-abbrev pub IsRightsTold : Order → (form : ℕ) (names : List ℕ) → (status : ℕ) (text : List ℕ) → Type 0
+-- the program's table
+abbrev pub IsRightsTold : ProfileOrder → (form : ℕ) (names : List ℕ) → (status : ℕ) (text : List ℕ) → Type 0
 IsRightsTold o form names status text =
-    (setup : Setup) × (first : Session) × (client : ℕ) × (style : RowStyle) × (paths : List Path)
-    × OpensFirst o setup first client × (style_by form ≡ Some style) × AreNamed names paths
-    × AreRows first.tree (client_of first.tree client).domain style (paths_or_nodes paths (loader_calls setup)) text
-    × (status ≡ 0)
+    IsAsked o × (form ≤ 2) × IsTable (rights_order o form names) o.profile o.policy text × (status ≡ 0)
 
 -- why there is none
-abbrev pub LacksRights : Order → (form : ℕ) (names : List ℕ) → AskFault → Type 0
-LacksRights o form names WrongForm = style_by form ≡ None
-LacksRights o form names WrongPath = NameNone (pieces names)
-LacksRights o form names WrongCommand = ⊥
-LacksRights o form names PolicyMissing = o.policy ≡ []
-LacksRights o form names ProfileMissing = o.profile ≡ []
-LacksRights o form names (Tree fault) = MayLack o fault
+abbrev pub LacksRights : ProfileOrder → (form : ℕ) (names : List ℕ) → AskFault → Type 0
+LacksRights o form names WrongForm = 2 < form
+LacksRights o form names WrongPath = LacksPath names
+LacksRights o form names fault = LacksTree o fault
 
-abbrev pub RightsAnswers : Order → (form : ℕ) (names : List ℕ) → (status : ℕ) (text : List ℕ) → Type 0
+abbrev pub RightsAnswers : ProfileOrder → (form : ℕ) (names : List ℕ) → (status : ℕ) (text : List ℕ) → Type 0
 RightsAnswers o form names status text =
     IsRightsTold o form names status text
     ⊎ ((fault : AskFault) × LacksRights o form names fault × (status ≡ ask_status fault))
 
 -- ---- why a command is answered so
 
--- what `why` prints for the first client's command
-abbrev pub IsWhyTold : Order → (command : List ℕ) → (status : ℕ) (text : List ℕ) → Type 0
-IsWhyTold o command status text =
-    (setup : Setup) × (first : Session) × (client : ℕ) × (call : Call) × OpensFirst o setup first client
-    × IsCommand command call × IsCallWhy setup.rules.abi first.tree client call text × (status ≡ 0)
+-- the program's explanation of the last line's command, after those of the lines before
+abbrev pub IsWhyTold : ProfileOrder → (commands : List ℕ) → (status : ℕ) (text : List ℕ) → Type 0
+IsWhyTold o commands status text =
+    (before : List (List ℕ)) × (last : List ℕ) × IsAsked o × (lines commands ≡ before ++ last ∷ [])
+    × IsCommandWhy Lines (tree_asked o) o.policy before last text × (status ≡ 0)
 
-abbrev pub LacksWhy : Order → (command : List ℕ) → AskFault → Type 0
-LacksWhy o command WrongForm = ⊥
-LacksWhy o command WrongPath = ⊥
-LacksWhy o command WrongCommand = (call : Call) → IsCommand command call → ⊥
-LacksWhy o command PolicyMissing = o.policy ≡ []
-LacksWhy o command ProfileMissing = o.profile ≡ []
-LacksWhy o command (Tree fault) = MayLack o fault
+abbrev pub LacksWhy : ProfileOrder → (commands : List ℕ) → AskFault → Type 0
+LacksWhy o commands WrongCommand = LacksCommand commands
+LacksWhy o commands fault = LacksTree o fault
 
-abbrev pub WhyAnswers : Order → (command : List ℕ) → (status : ℕ) (text : List ℕ) → Type 0
-WhyAnswers o command status text =
-    IsWhyTold o command status text
-    ⊎ ((fault : AskFault) × LacksWhy o command fault × (status ≡ ask_status fault))
+abbrev pub WhyAnswers : ProfileOrder → (commands : List ℕ) → (status : ℕ) (text : List ℕ) → Type 0
+WhyAnswers o commands status text =
+    IsWhyTold o commands status text
+    ⊎ ((fault : AskFault) × LacksWhy o commands fault × (status ≡ ask_status fault))

@@ -1,10 +1,11 @@
 //! Why a question about a profile has no answer.
 
 ghost use Rattle.std.specs.Prelude.{◌≡◌};
-ghost use Rattle.ll_embed.specs.Questions.{ask_status};
+ghost use Rattle.ll_embed.specs.Questions.{ask_status, fault_of_lines};
 
 use crate::answer::Answer;
-use crate::fault::Fault;
+use crate::fault::{Fault, fault_at};
+use ll_program::Failure;
 use std::alloc::Global;
 
 /// Why a question about a profile has no answer.
@@ -14,7 +15,7 @@ pub enum AskFault {
     WrongForm,
     /// A line names no path.
     WrongPath,
-    /// The text spells no command.
+    /// A line spells no command, or there is no line.
     WrongCommand,
     /// There is no policy.
     PolicyMissing,
@@ -25,6 +26,16 @@ pub enum AskFault {
 }
 
 impl AskFault {
+    /// Returns what the program's failure at a text's lines is here, which are wrong like this.
+    pub fn of_lines(failure: Failure, wrong: AskFault) -> AskFault
+        ensures { result ≡ fault_of_lines failure wrong }
+    {
+        match failure {
+            Failure::CommandLine => wrong,
+            failure => AskFault::Tree(fault_at(failure)),
+        }
+    }
+
     // Returns the status.
     fn status(self) -> u32
         ensures { result ≡ ask_status self }

@@ -1,107 +1,82 @@
 //! Why a command of a policy's profile is answered as it is.
 
-ghost use Rattle.std.specs.Prelude.{◌≡◌, ◌⊎◌, ◌∷◌, ◌++◌, [], ℕ, false, IfErr, IfOk, string_bytes};
-ghost use Rattle.ll_seq.specs.History.{is_connect};
-ghost use Rattle.ll_seq.specs.declared.call.Call as calls;
-ghost use Rattle.ll_session.specs.PartySession.{Session};
-ghost use Rattle.ll_session.specs.declared.setup.Setup as setups;
-ghost use Rattle.ll_why.specs.CallWhy.{IsCallWhy, IsCommand};
-ghost use Rattle.ll_embed.specs.Answers.{order_in};
-ghost use Rattle.ll_embed.specs.Questions.{AreGiven, IsWhyTold, LacksWhy, MayLack, OpensFirst, WhyAnswers};
-ghost use Rattle.ll_embed.specs.declared.ask_fault.AskFault.{AskFault};
-ghost use Rattle.ll_embed.specs.declared.fault.Fault as faults;
+ghost use Rattle.std.specs.Prelude.{◌≡◌, ◌∷◌, ◌++◌, [], ℕ, List, IfErr, IfOk, string_bytes};
+ghost use Rattle.std.specs.List.{AllZip};
+ghost use Rattle.std.specs.Str.Lines.{lines};
+ghost use Rattle.ll_program.specs.Paths.{IsOfWords};
+ghost use Rattle.ll_program.specs.declared.failure.Failure as failures;
+ghost use Rattle.ll_why.specs.CallWhy.{IsCommand};
+ghost use Rattle.ll_embed.specs.Lines.{LacksCommand};
+ghost use Rattle.ll_embed.specs.Questions.{IsWhyTold, LacksWhy, WhyAnswers, profile_order_in};
 
 use crate::answer::Answer;
 use crate::ask_fault::AskFault;
-use crate::fault::Fault;
-use crate::given::Given;
-use crate::granted::{missing_of, open_first};
-use ll_rights::{Abi, Errno};
+use crate::asked::ProfileGiven;
+use crate::fault::fault_at;
+use crate::lines::lines_in;
+use ll_commands::{call_of, calls_of, told_of_setup};
+use ll_program::Failure;
 use ll_seq::Call;
-use ll_session::Setup;
-use ll_why::call_why;
-use ll_wire::read_command;
-use std::alloc::{AllocError, Global};
+use ll_why::WhyStyle;
+use std::alloc::Global;
 
-// Returns the line of a command.
-fn line_of(alloc: Global, command: &[u8]) -> Result<Vec<u8>, AllocError>
-    ensures { IfOk result (λ line. line.items ≡ command.now ++ 10 ∷ []) }
-{
-    let mut line = Vec::from_slice(alloc, command)?;
-    line.push(b'\n')?;
-    Ok(line)
+/// The calls of a text's lines: those before the last one, and that one.
+#[derive(Drop)]
+struct CallsTold {
+    before: Vec<Call>,
+    last: Call,
 }
 
-// Returns the call that the command spells.
-fn call_of(alloc: Global, command: &[u8]) -> Result<Call, AskFault>
-    ensures call { IfOk result (IsCommand command.now) }
-    ensures fault { IfErr result (λ fault. (fault ≡ AskFault.Tree faults.Fault.NoMemory)
-        ⊎ ((fault ≡ AskFault.WrongCommand) × ((call : calls.Call) → IsCommand command.now call → ⊥))) }
+// Returns the calls that the lines spell, the last of which is explained. Errors: the text isn't UTF-8, there is no
+// line, or one spells no call (a wrong command line); memory ran out.
+fn calls_in(alloc: Global, commands: &[u8]) -> Result<CallsTold, Failure>
+    ensures calls { IfOk result (λ calls. (before : List (List ℕ)) × (last : List ℕ)
+        × (lines commands.now ≡ before ++ last ∷ []) × AllZip IsCommand before calls.before.items
+        × IsCommand last calls.last) }
+    ensures bad { IfErr result (λ failure. failure ≡ failures.Failure.CommandLine → LacksCommand commands.now) }
+    ensures failure { IfErr result IsOfWords }
 {
-    let Ok(line) = line_of(alloc, command) else {
-        return Err(AskFault::Tree(Fault::NoMemory));
+    let lines = lines_in(alloc, commands)?;
+    let Some((last, before)) = lines.as_slice().split_last() else {
+        return Err(Failure::CommandLine);
     };
-    match read_command(alloc, line.as_slice(), 1) {
-        Ok((_, call)) => Ok(call),
-        Err(Errno::BadLine) => Err(AskFault::WrongCommand),
-        Err(_) => Err(AskFault::Tree(Fault::NoMemory)),
+    let before = calls_of(alloc, before)?;
+    match call_of(alloc, last) {
+        Ok(last) => Ok(CallsTold { before, last }),
+        Err(failure) => {
+            drop(before);
+            Err(failure)
+        }
     }
 }
 
-fn level_of(setup: &Setup) -> Abi
-    ensures { result ≡ setup.now.rules.abi }
+// Returns the text on the last command.
+fn why_of(alloc: Global, given: &ProfileGiven<'_>, commands: &[u8]) -> Result<String, AskFault>
+    ensures told { IfOk result (λ text. IsWhyTold (profile_order_in given.now) commands.now 0 (string_bytes text)) }
+    ensures fault { IfErr result (LacksWhy (profile_order_in given.now) commands.now) }
 {
-    setup.rules.abi
-}
-
-// Returns the text on the first client's call.
-fn text_on(alloc: Global, given: &Given<'_>, call: &Call) -> Result<String, Fault>
-    requires given { AreGiven (order_in given.now) }
-    requires call { is_connect call.now ≡ false }
-    ensures told { IfOk result (λ text. (setup : setups.Setup) × (first : Session) × (client : ℕ)
-        × OpensFirst (order_in given.now) setup first client
-        × IsCallWhy setup.rules.abi first.tree client call.now (string_bytes text)) }
-    ensures fault { IfErr result (MayLack (order_in given.now)) }
-{
-    let setup = match given.setup(alloc) {
-        Ok(setup) => setup,
-        Err(fault) => return Err(fault),
+    let setup = given.setup(alloc)?;
+    let calls = match calls_in(alloc, commands) {
+        Ok(calls) => calls,
+        Err(failure) => return Err(AskFault::of_lines(failure, AskFault::WrongCommand)),
     };
-    let level = level_of(&setup);
-    let opened = match open_first(alloc, setup) {
-        Ok(opened) => opened,
-        Err(fault) => return Err(fault),
-    };
-    let client = opened.number;
-    match call_why(alloc, opened.tree, level, client, call) {
+    match told_of_setup(
+        alloc,
+        WhyStyle::Lines,
+        &setup,
+        calls.before.as_slice(),
+        &calls.last,
+    ) {
         Ok(text) => Ok(text),
-        Err(_) => Err(Fault::NoMemory),
+        Err(failure) => Err(AskFault::Tree(fault_at(failure))),
     }
 }
 
-// Returns the text on the command.
-fn why_of(alloc: Global, given: &Given<'_>, command: &[u8]) -> Result<String, AskFault>
-    ensures told { IfOk result (λ text. IsWhyTold (order_in given.now) command.now 0 (string_bytes text)) }
-    ensures fault { IfErr result (LacksWhy (order_in given.now) command.now) }
+/// Returns why the last command of the profile's client is answered as it is, after those before it.
+pub fn why(alloc: Global, given: &ProfileGiven<'_>, commands: &[u8]) -> Answer
+    ensures { WhyAnswers (profile_order_in given.now) commands.now result.status result.text.items }
 {
-    if let Some(fault) = missing_of(given) {
-        return Err(fault);
-    }
-    let call = match call_of(alloc, command) {
-        Ok(call) => call,
-        Err(fault) => return Err(fault),
-    };
-    match text_on(alloc, given, &call) {
-        Ok(text) => Ok(text),
-        Err(fault) => Err(AskFault::Tree(fault)),
-    }
-}
-
-/// Returns why the first client's command is answered as it is.
-pub fn why(alloc: Global, given: &Given<'_>, command: &[u8]) -> Answer
-    ensures { WhyAnswers (order_in given.now) command.now result.status result.text.items }
-{
-    match why_of(alloc, given, command) {
+    match why_of(alloc, given, commands) {
         Ok(text) => Answer {
             status: 0,
             text: text.into_bytes(),

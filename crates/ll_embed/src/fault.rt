@@ -1,9 +1,10 @@
 //! Why there is no answer.
 
 ghost use Rattle.std.specs.Prelude.{◌≡◌};
-ghost use Rattle.ll_embed.specs.Answers.{fault_in, status_of};
+ghost use Rattle.ll_embed.specs.Answers.{fault_at, fault_in, status_of};
 
 use ll_policy::PolicyFault;
+use ll_program::Failure;
 use ll_session::RunFault;
 use ll_wire::SessionFault;
 
@@ -59,5 +60,17 @@ pub fn fault_of(fault: RunFault) -> Fault
         RunFault::Opening => Fault::Opening,
         RunFault::Session(SessionFault::TooLong) => Fault::TooLong,
         RunFault::Session(_) => Fault::NoMemory,
+    }
+}
+
+/// Returns what the program's failure is here: texts of memory can't be read or written only if memory runs out.
+pub fn fault_at(failure: Failure) -> Fault
+    ensures { result ≡ fault_at failure }
+{
+    match failure {
+        Failure::CommandLine => Fault::NoProfile,
+        Failure::Policy(fault) => Fault::Policy(fault),
+        Failure::Opening => Fault::Opening,
+        Failure::File | Failure::Output | Failure::Socket | Failure::NoMemory => Fault::NoMemory,
     }
 }

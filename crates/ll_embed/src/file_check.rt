@@ -6,14 +6,14 @@ ghost use Rattle.ll_program.specs.Failure.{status_by};
 ghost use Rattle.ll_program.specs.Options.{checked_in};
 ghost use Rattle.ll_program.specs.declared.conclusion.Conclusion.{Conclusion};
 ghost use Rattle.ll_check.specs.Files.{source_of};
-ghost use Rattle.ll_embed.specs.CheckAnswers.{CheckAnswers, CheckFits, IsCheckTold, MayFailCheck, asked_in, fault_at};
+ghost use Rattle.ll_embed.specs.CheckAnswers.{CheckAnswers, CheckFits, IsCheckTold, MayFailCheck, asked_in};
 ghost use Rattle.ll_embed.specs.CheckAnswers.{form_by, level_given, order_of, policy_given, source_in, text_given};
 
 use crate::answer::Answer;
-use crate::fault::Fault;
+use crate::fault::{Fault, fault_at};
 use crate::own_runner::OwnRunner;
 use ll_check::{CheckInput, DeniedTest, NamedText, Notes, check};
-use ll_program::{CheckOptions, Checked, Failure, ReportForm};
+use ll_program::{CheckOptions, Checked, ReportForm};
 use ll_rights::Abi;
 use ll_rights::limits::TREE_NODES;
 use ll_wire::Header;
@@ -98,18 +98,6 @@ fn policy_name(policy: &[u8]) -> Option<&'static str>
         None
     } else {
         Some("policy")
-    }
-}
-
-// Returns what the program's failure is here: texts of memory can't be read or written only if memory runs out.
-fn fault_at(failure: Failure) -> Fault
-    ensures { result ≡ fault_at failure }
-{
-    match failure {
-        Failure::CommandLine => Fault::NoProfile,
-        Failure::Policy(fault) => Fault::Policy(fault),
-        Failure::Opening => Fault::Opening,
-        Failure::File | Failure::Output | Failure::Socket | Failure::NoMemory => Fault::NoMemory,
     }
 }
 

@@ -6,7 +6,7 @@ ghost use Rattle.ll_embed.specs.Answers.{AuditAnswers, EntryAnswers, verdict_sta
 use crate::answer::Answer;
 use crate::fault::Fault;
 use ll_audit::{Untold, Verdict, judge};
-use ll_why::{HistoryWhy, why_entry};
+use ll_why::{HistoryWhy, WhyStyle, why_entry};
 use std::alloc::Global;
 
 fn status_of_verdict(verdict: Verdict) -> u32
@@ -38,7 +38,7 @@ pub fn verdict_on(alloc: Global, history: &[u8]) -> Answer
 pub fn why(alloc: Global, history: &[u8], number: usize) -> Answer
     ensures { EntryAnswers history.now number result.status result.text.items }
 {
-    match why_entry(alloc, history, number) {
+    match why_entry(alloc, WhyStyle::Lines, history, number) {
         Ok(HistoryWhy::Told(text)) => Answer {
             status: 0,
             text: text.into_bytes(),

@@ -1,6 +1,6 @@
 //! The least profile for what a saved history did.
 
-ghost use Rattle.std.specs.Prelude.{◌≡◌, ◌⊎◌, ◌<◌, ◌≤◌, ◌∷◌, ◌++◌, [], IfErr, IfOk, OnOk, map, string_bytes, true};
+ghost use Rattle.std.specs.Prelude.{◌≡◌, ◌⊎◌, ◌<◌, ◌≤◌, IfErr, IfOk, OnOk, map, string_bytes, true};
 ghost use Rattle.std.specs.List.{list_all};
 ghost use Rattle.std.specs.Str.{IsUtf8};
 ghost use Rattle.std.specs.Str.Lines.{lines};
@@ -8,15 +8,17 @@ ghost use Rattle.ll_rights.specs.declared.limits.TheConstants.{RULESET_INODES};
 ghost use Rattle.ll_path.specs.Path.{path_of_text};
 ghost use Rattle.ll_policy.specs.Value.{is_name, is_name_byte};
 ghost use Rattle.ll_learn.specs.declared.saved_lesson.Learned.{Learned};
-ghost use Rattle.ll_embed.specs.LearnAnswers.{HasNoPath, IsLearnTold, IsMisasked, IsNoName, IsNoPath, IsWithheld};
-ghost use Rattle.ll_embed.specs.LearnAnswers.{LacksPath, LacksRights, LearnAnswers, client_by, learn_order_in};
-ghost use Rattle.ll_embed.specs.LearnAnswers.{line_at, most_by, name_by, unlearned_status};
+ghost use Rattle.ll_embed.specs.LearnAnswers.{IsLearnTold, IsMisasked, IsNoName, IsWithheld, LacksRights, LearnAnswers};
+ghost use Rattle.ll_embed.specs.LearnAnswers.{client_by, learn_order_in, line_at, most_by, name_by, unlearned_status};
+ghost use Rattle.ll_embed.specs.Lines.{LacksPath};
 ghost use Rattle.ll_embed.specs.declared.fault.Fault.{Fault};
 
 use crate::answer::Answer;
 use crate::fault::Fault;
+use crate::lines::paths_in;
 use ll_learn::{Learned, SavedLesson, Unlearned};
-use ll_path::{Path, Word};
+use ll_path::Path;
+use ll_program::Failure;
 use ll_rights::Access;
 use ll_rights::limits::RULESET_INODES;
 use std::alloc::{AllocError, Global};
@@ -49,72 +51,6 @@ fn are_name_bytes(name: &str) -> bool
 {
     name.bytes()
         .all(|b| matches!(b, b'a'..=b'z' | b'0'..=b'9' | b'-'))
-}
-
-// Returns the path that a line spells. Errors: it spells none, or memory ran out.
-fn path_of_line(alloc: Global, line: &str) -> Result<Path, Fault>
-    ensures path { IfOk result (λ path. path ≡ path_of_text line.now) }
-    ensures fault { IfErr result (λ fault. (fault ≡ Fault.NoMemory)
-        ⊎ ((fault ≡ Fault.Misfit) × IsNoPath line.now)) }
-{
-    let Ok(text) = String::from_str(alloc, line) else {
-        return Err(Fault::NoMemory);
-    };
-    let word = match Word::new(text) {
-        Ok(word) => word,
-        Err(text) => {
-            drop(text);
-            return Err(Fault::Misfit);
-        }
-    };
-    match Path::parse(word) {
-        Ok(path) => Ok(path),
-        Err((word, _)) => {
-            drop(word);
-            Err(Fault::Misfit)
-        }
-    }
-}
-
-// Appends the path.
-fn push_path(paths: &mut Vec<Path>, path: Path) -> Result<(), Fault>
-    ensures ok { OnOk result (paths.new.items ≡ paths.old.items ++ path ∷ []) }
-    ensures fault { IfErr result (λ fault. fault ≡ Fault.NoMemory) }
-{
-    match paths.push(path) {
-        Ok(()) => Ok(()),
-        Err(refused) => {
-            drop(refused);
-            Err(Fault::NoMemory)
-        }
-    }
-}
-
-// Returns the paths that the lines spell, in order. Errors: a line spells none, or memory ran out.
-fn paths_of_lines(alloc: Global, lines: &[&str]) -> Result<Vec<Path>, Fault>
-    ensures paths { IfOk result (λ paths. paths.items ≡ map path_of_text (map (λ l. l.now) lines.now)) }
-    ensures fault { IfErr result (λ fault. (fault ≡ Fault.NoMemory)
-        ⊎ ((fault ≡ Fault.Misfit) × HasNoPath (map (λ l. l.now) lines.now))) }
-{
-    let mut paths = Vec::new(alloc);
-    for line in lines {
-        let path = match path_of_line(alloc, line) {
-            Ok(path) => path,
-            Err(fault) => return Err(fault),
-        };
-        match push_path(&mut paths, path) {
-            Ok(()) => {}
-            Err(fault) => return Err(fault),
-        }
-    }
-    Ok(paths)
-}
-
-// Returns the lines of the text.
-fn lines_of(alloc: Global, text: &str) -> Result<Vec<&str>, AllocError>
-    ensures { IfOk result (λ told. map (λ l. l.now) told.items ≡ lines text.now) }
-{
-    text.lines().collect(alloc)
 }
 
 // Returns the line on what is wrong with a history, in this line of it or as a whole.
@@ -156,13 +92,11 @@ fn directories_of(alloc: Global, text: &[u8]) -> Result<Vec<Path>, Fault>
     ensures fault { IfErr result (λ fault. (fault ≡ Fault.NoMemory)
         ⊎ ((fault ≡ Fault.Misfit) × LacksPath text.now)) }
 {
-    let Ok(text) = str::from_utf8(text) else {
-        return Err(Fault::Misfit);
-    };
-    let Ok(lines) = lines_of(alloc, text) else {
-        return Err(Fault::NoMemory);
-    };
-    paths_of_lines(alloc, lines.as_slice())
+    match paths_in(alloc, text) {
+        Ok(paths) => Ok(paths),
+        Err(Failure::CommandLine) => Err(Fault::Misfit),
+        Err(_) => Err(Fault::NoMemory),
+    }
 }
 
 // Returns the given name, or else the default. Errors: the text isn't UTF-8.

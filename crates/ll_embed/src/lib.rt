@@ -3,6 +3,7 @@
 
 mod answer;
 mod ask_fault;
+mod asked;
 mod explained;
 mod fault;
 mod file_check;
@@ -10,7 +11,7 @@ mod given;
 mod granted;
 mod history;
 mod learned_profile;
-mod named;
+mod lines;
 mod opening;
 mod own_runner;
 mod own_tree;
@@ -19,7 +20,7 @@ mod run;
 mod strict;
 mod text_run;
 
-ghost use Rattle.std.specs.Prelude.{◌≡◌, []};
+ghost use Rattle.std.specs.Prelude.{◌≡◌};
 ghost use Rattle.ll_embed.specs.Answers.{AuditAnswers, EntryAnswers, HistoryAnswers, PolicyAnswers};
 ghost use Rattle.ll_embed.specs.Answers.{RunAnswers, is_set};
 ghost use Rattle.ll_embed.specs.Buffer.{Gives};
@@ -27,6 +28,7 @@ ghost use Rattle.ll_embed.specs.CheckAnswers.{CheckAnswers};
 ghost use Rattle.ll_embed.specs.LearnAnswers.{LearnAnswers};
 ghost use Rattle.ll_embed.specs.Questions.{RightsAnswers, WhyAnswers};
 
+use crate::asked::ProfileGiven;
 use crate::file_check::CheckGiven;
 use crate::given::Given;
 use crate::learned_profile::{LearnGiven, learned_answer};
@@ -204,56 +206,44 @@ pub extern "C" fn landtree_rights(
     len: &mut usize,
 ) -> u32
     ensures { Gives (RightsAnswers (record {
-      level = 0;
       nodes = nodes;
-      history = 0;
       policy = policy.now;
       profile = profile.now;
-      script = [];
     }) form paths.now) out.old out.new len.new result }
 {
-    let given = Given {
-        level: 0,
+    let given = ProfileGiven {
         nodes,
-        history: 0,
         policy,
         profile,
-        script: &[],
     };
     let answer = granted::table(alloc, &given, form, paths);
     answer.put(out, len)
 }
 
-/// Tells why a command of a policy's profile is answered as it is, as the program's `why COMMAND` does. The command
-/// has no line feed.
+/// Tells why a command of a policy's profile is answered as it is, as the program's `why COMMAND..` does: each line of
+/// `commands` is a command, and the last one is explained, after those before it.
 #[unsafe(no_mangle)]
 pub extern "C" fn landtree_why(
     alloc: Global,
     nodes: usize,
     policy: &[u8],
     profile: &[u8],
-    command: &[u8],
+    commands: &[u8],
     out: &mut [u8],
     len: &mut usize,
 ) -> u32
     ensures { Gives (WhyAnswers (record {
-      level = 0;
       nodes = nodes;
-      history = 0;
       policy = policy.now;
       profile = profile.now;
-      script = [];
-    }) command.now) out.old out.new len.new result }
+    }) commands.now) out.old out.new len.new result }
 {
-    let given = Given {
-        level: 0,
+    let given = ProfileGiven {
         nodes,
-        history: 0,
         policy,
         profile,
-        script: &[],
     };
-    let answer = explained::why(alloc, &given, command);
+    let answer = explained::why(alloc, &given, commands);
     answer.put(out, len)
 }
 

@@ -1,7 +1,7 @@
 //! The tree of a session that nobody shares: without locks.
 
 ghost use Rattle.std.specs.Prelude.{◌≡◌, ◌<◌, ◌≤◌, ◌+◌, ℕ, false, true, length, IfErr, IfOk, IfSome, OnErr, OnOk};
-ghost use Rattle.std.specs.Prelude.{◌-◌, ◌^◌, List, None, Some, cond, slice_get};
+ghost use Rattle.std.specs.Prelude.{List, None, Some, cond};
 ghost use Rattle.ll_rights.specs.Map.{has};
 ghost use Rattle.ll_rights.specs.declared.limits.TheConstants.{HISTORY_ENTRIES};
 ghost use Rattle.ll_plain.specs.Refusal.{is_refusal};
@@ -35,13 +35,6 @@ pub struct OwnTree {
     ghost low: { plain.next ≤ length history.entries + 2 },
     ghost within: { length history.entries ≤ history.limit },
     ghost most: { history.limit ≤ HISTORY_ENTRIES },
-}
-
-/// A tree, and the number of its session's first client.
-#[derive(Drop)]
-pub struct FirstClient {
-    pub tree: Plain,
-    pub number: u64,
 }
 
 impl OwnTree {
@@ -303,20 +296,5 @@ impl OwnTree {
         ensures { result ≡ self.history }
     {
         self.history
-    }
-
-    /// Returns the tree, with the session's first client.
-    pub fn into_first(self) -> FirstClient
-        requires { 1 ≤ self.clients }
-        ensures tree { result.tree ≡ (own self).tree }
-        ensures first { slice_get (own self).clients 0 ≡ Some result.number }
-        ensures there { has result.tree.clients result.number ≡ true }
-        ensures next { result.tree.next < 2 ^ 64 - 1 }
-    {
-        let number = self.before + 1;
-        FirstClient {
-            tree: self.plain,
-            number,
-        }
     }
 }

@@ -1,12 +1,12 @@
 use Rattle.std.proofs.Common.{ℕ, inl, inr, subst, sym}
 use Rattle.std.specs.declared.alloc.Global.{Global}
 use Rattle.std.specs.declared.vec.Vec.{Vec}
-use Rattle.ll_embed.specs.Answers.{order_in}
-use Rattle.ll_embed.specs.Questions.{IsWhyTold}
+use Rattle.ll_embed.specs.Questions.{IsWhyTold, profile_order_in}
 use Rattle.ll_embed.proofs.explained.why.Goals as goal
 
 pub returns-in-Ok : goal.returns-in-Ok
-returns-in-Ok c = inl (subst (λ (v : Vec ℕ Global). IsWhyTold (order_in c.args.given.now) c.args.command.now 0 v.items)
+returns-in-Ok c = inl (subst (λ (v : Vec ℕ Global).
+    IsWhyTold (profile_order_in c.args.given.now) c.args.commands.now 0 v.items)
     (sym c.into_bytes.ensures.value) c.in-Ok.ensures.told)
 
 pub returns-in-Err : goal.returns-in-Err
