@@ -1,8 +1,6 @@
 //! Policies: the faults of bad documents, and the calls of good ones.
 
-use ll_commands::{Confinement, json_text};
 use ll_policy::{Policy, PolicyFault};
-use ll_program::{Denied, ExportOptions, Form};
 use ll_rights::{Access, Kind};
 use ll_seq::Call;
 use std::alloc::{AllocError, Global};
@@ -231,50 +229,4 @@ fn is_read(alloc: Global) -> Result<bool, PolicyFault> {
 #[test]
 fn reader(rt: HostRuntime) {
     assert!(rt; is_read(rt.alloc()) == Ok(true));
-}
-
-/// A profile of two layers, the first with one rule.
-const TWO_LAYERS: &str = "version = 1\n[[profile.p.layer]]\nhandled = \"write_file,refer\"\n\
-    [[profile.p.layer.rule]]\npath = \"/\"\nrights = \"refer\"\n\
-    [[profile.p.layer]]\nhandled = \"truncate\"\n";
-
-const JSON: &str =
-    "{\n  \"version\": 1,\n  \"abi\": 3,\n  \"root\": \"/\",\n  \"also\": [\"/\\n\"],\n\
-    \x20 \"follow\": false,\n  \"exact\": true,\n  \"best_effort\": false,\n\
-    \x20 \"deny\": {\"tcp\": false, \"ioctl_dev\": false, \"signal\": false, \"abstract_unix_socket\": false},\n\
-    \x20 \"layers\": [\n\
-    \x20   {\"handled\": [\"write_file\", \"refer\"], \"rules\": [\n\
-    \x20     {\"path\": \"/\", \"kind\": \"dir\", \"rights\": [\"refer\"]}\n\
-    \x20   ]},\n\
-    \x20   {\"handled\": [\"truncate\"], \"rules\": [\n\n\
-    \x20   ]}\n\
-    \x20 ]\n}\n";
-
-fn json(alloc: Global) -> Option<String> {
-    let policy = Policy::from_text(alloc, TWO_LAYERS).ok()?;
-    let opening = policy.opening(alloc).ok()?;
-    let options = ExportOptions {
-        policy: "",
-        profile: "p",
-        form: Some(Form::Json),
-        root: None,
-        also: vec![in alloc; "/\n"].ok()?,
-        follow: false,
-        deny: Some(Denied::NOTHING),
-        exact: true,
-        best_effort: false,
-        checked: Vec::new(alloc),
-    };
-    let confinement = Confinement {
-        abi: policy.abi(),
-        opening: opening.as_slice(),
-        layers: policy.layers("p")?,
-    };
-    json_text(alloc, &options, &confinement).ok()
-}
-
-#[test]
-fn layers_as_json(rt: HostRuntime) {
-    let text = json(rt.alloc());
-    assert!(rt; matches!(&text, Some(text) if text.as_str() == JSON));
 }
