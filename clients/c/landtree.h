@@ -75,12 +75,13 @@ uint32_t landtree_why_entry(size_t number,
                             const uint8_t *history, size_t history_length,
                             uint8_t *out, size_t capacity, size_t *length);
 
-/* Tells why a command of a policy's profile is answered as it is. The command is one line, without its line feed.
-   LANDTREE_WRONG is also an empty policy or profile, and what is no command. */
+/* Tells why a command of a policy's profile is answered as it is. `commands` has one or more commands, one a line; the
+   last one is explained, in the tree that those before it leave. The last line may lack its line feed. LANDTREE_WRONG
+   is also an empty policy or profile, a line that is no command, and no line at all. */
 uint32_t landtree_why(size_t nodes,
                       const uint8_t *policy, size_t policy_length,
                       const uint8_t *profile, size_t profile_length,
-                      const uint8_t *command, size_t command_length,
+                      const uint8_t *commands, size_t commands_length,
                       uint8_t *out, size_t capacity, size_t *length);
 
 /* The forms of a table of rights: what is written of a path. */

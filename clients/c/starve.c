@@ -4,7 +4,7 @@
      starve check CHECKS REPORT [POLICY PROFILE]
 
    The first does so with a run, and with a profile that is learned; with a policy also with the table of rights, and
-   with why the script's first command is answered so. The second does so with a check.
+   with why the script's second command is answered so after the first. The second does so with a check.
    Then the status is LANDTREE_NO_MEMORY, or that of an opening that is refused for want of memory; or a run's answer
    has lines that are refused so, by which tests may fail; and as much memory is given back as was taken. Prints a line
    for each call. */
@@ -74,10 +74,11 @@ static uint32_t rights(void) {
                            bytes(""), 0, out, sizeof out, &length);
 }
 
-/* Why the script's first command is answered as it is. */
+/* Why the script's second command is answered as it is, after the first. */
 static uint32_t why(void) {
+    size_t line = strcspn(script, "\n") + 1;
     return landtree_why(4096, bytes(policy), strlen(policy), bytes(profile), strlen(profile), bytes(script),
-                        strcspn(script, "\n"), out, sizeof out, &length);
+                        line + strcspn(script + line, "\n"), out, sizeof out, &length);
 }
 
 static uint32_t learn(void) {

@@ -4,7 +4,7 @@
 //     node clients/page/landtree.mjs check FILE [--policy FILE --profile NAME] [--quiet | --verbose | --as FORM]
 //     node clients/page/landtree.mjs audit HISTORY
 //     node clients/page/landtree.mjs why HISTORY NUMBER
-//     node clients/page/landtree.mjs why COMMAND --policy FILE --profile NAME
+//     node clients/page/landtree.mjs why COMMAND.. --policy FILE --profile NAME
 //     node clients/page/landtree.mjs rights --policy FILE --profile NAME [--layers | --as json] [PATH..]
 //     node clients/page/landtree.mjs learn --history FILE [--client N] [--never RIGHTS] [--beneath DIR].. [--most N]
 //         [--name NAME]
@@ -118,9 +118,9 @@ export class Landtree {
     return this.#ask('landtree_why_entry', [BigInt(number)], [history]);
   }
 
-  // Why a policy's profile gets this answer to its command.
-  why({ policy, profile, command, nodes = 4096 }) {
-    return this.#ask('landtree_why', [BigInt(nodes)], [policy, profile, command]);
+  // Why a policy's profile gets this answer to the last of its commands, after those before it.
+  why({ policy, profile, commands, nodes = 4096 }) {
+    return this.#ask('landtree_why', [BigInt(nodes)], [policy, profile, commands.join('\n')]);
   }
 
   // The rights that a policy's profile is granted at these paths, or without any at the policy's nodes, in one of the
@@ -212,15 +212,15 @@ function audit(tree, read, [file, ...more]) {
   return file === undefined || more.length > 0 ? WRONG : tree.audit(read(file));
 }
 
-// The words are a history and an entry's number, or with a policy the command.
+// The words are a history and an entry's number, or with a policy the commands, the last of which is explained.
 function why(tree, read, words, options) {
   const { policy, profile } = options;
   if (policy === undefined && profile === undefined) {
     const entry = words.length === 2 ? number(words[1]) : undefined;
     return entry === undefined ? WRONG : tree.whyEntry(read(words[0]), entry);
   }
-  if (policy === undefined || profile === undefined || words.length !== 1) return WRONG;
-  return tree.why({ ...setupOf(read, options), command: words[0] });
+  if (policy === undefined || profile === undefined || words.some((it) => line(it) === undefined)) return WRONG;
+  return tree.why({ ...setupOf(read, options), commands: words });
 }
 
 function rights(tree, read, paths, { layers, as, ...options }) {

@@ -111,9 +111,9 @@ class Library:
         """Tells why the entry with this number, from 1, of a saved history was answered so."""
         return self._ask(self._library.landtree_why_entry, [ctypes.c_size_t(number)], [encoded(history)])
 
-    def why(self, policy: Text, profile: str, command: str, nodes: int = 4096) -> Answer:
-        """Tells why the profile's command is answered as it is."""
-        texts = [encoded(it) for it in (policy, profile, command)]
+    def why(self, policy: Text, profile: str, commands: str, nodes: int = 4096) -> Answer:
+        """Tells why the profile's command is answered as it is: of one or more commands, one a line, the last one."""
+        texts = [encoded(it) for it in (policy, profile, commands)]
         return self._ask(self._library.landtree_why, [ctypes.c_size_t(nodes)], texts)
 
     def rights(

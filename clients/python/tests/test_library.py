@@ -73,6 +73,9 @@ class Libraries(Case):
         self.assertEqual(told.text, worked("rights-of-a-profile", "stdout"))
         told = self.library.why(worked("why-a-command", "policy.toml"), "p", "open rwt /work/a")
         self.assertEqual(told.text, worked("why-a-command", "stdout"))
+        commands = "".join(worked("why-after-others", "words").decode().splitlines(True)[5:])
+        told = self.library.why(worked("why-after-others", "policy.toml"), "p", commands)
+        self.assertEqual(told.text, worked("why-after-others", "stdout"))
 
     def test_wrong_questions(self):
         two = worked("rights-by-two-layers", "policy.toml")
@@ -81,8 +84,9 @@ class Libraries(Case):
                 self.library.rights(policy, profile)
         with self.assertRaisesRegex(LibraryFault, "path"):
             self.library.rights(two, "p", ["/work", "work"])
-        with self.assertRaisesRegex(LibraryFault, "command"):
-            self.library.why(two, "p", "fly /")
+        for commands in ("fly /", "fly /\nlist /", "list /\n\n", ""):
+            with self.assertRaisesRegex(LibraryFault, "not a command"):
+                self.library.why(two, "p", commands)
         with self.assertRaises(ValueError):
             self.library.rights(two, "p", ["/a\n/b"])
         with self.assertRaises(ValueError):

@@ -240,13 +240,13 @@ pub fn why_entry(history: &[u8], number: usize) -> Result<Answer, Fault> {
     })
 }
 
-/// Tells why the profile's command is answered as it is. The command has no line feed.
-pub fn why(asked: Asked<'_>, command: &str) -> Result<Answer, Fault> {
+/// Tells why the profile's command is answered as it is: of one or more commands, one a line, the last one.
+pub fn why(asked: Asked<'_>, commands: &str) -> Result<Answer, Fault> {
     let Asked { policy, profile, nodes } = asked;
     // SAFETY: as above.
     ask(|out, capacity, length| unsafe {
         ffi::landtree_why(
-            nodes, policy.as_ptr(), policy.len(), profile.as_ptr(), profile.len(), command.as_ptr(), command.len(),
+            nodes, policy.as_ptr(), policy.len(), profile.as_ptr(), profile.len(), commands.as_ptr(), commands.len(),
             out, capacity, length,
         )
     })

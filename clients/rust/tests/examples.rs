@@ -86,9 +86,14 @@ fn profiles_are_asked_about() {
     let step = worked("why-a-command", "policy.toml");
     let told = why(Asked::new(&step, "p"), "open rwt /work/a").unwrap();
     assert_eq!(told.text, worked("why-a-command", "stdout"));
+    let made = worked("why-after-others", "policy.toml");
+    let told = why(Asked::new(&made, "p"), "make reg /work/b\nlink /work/b /work/c\nopen wt /work/b\n").unwrap();
+    assert_eq!(told.text, worked("why-after-others", "stdout"));
     assert_eq!(rights(asked, TableForm::Usual, &["work"]).unwrap_err().status, 2);
     assert_eq!(rights(Asked::new(&two, "nobody"), TableForm::Json, &[]).unwrap_err().status, 2);
-    assert_eq!(why(asked, "fly /").unwrap_err().status, 2);
+    for wrong in ["fly /", "fly /\nlist /", "list /\n\n", ""] {
+        assert_eq!(why(asked, wrong).unwrap_err().status, 2);
+    }
 }
 
 #[test]
