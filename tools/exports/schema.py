@@ -1,5 +1,5 @@
 """Whether a value is what a JSON schema describes, by jsonschema where that is installed, and else by the few words that
-docs/export.schema.json uses."""
+the schemas of docs/ use."""
 
 import re
 
@@ -8,7 +8,7 @@ try:
 except ImportError:
     jsonschema = None
 
-TYPES = {"object": dict, "array": list, "string": str, "boolean": bool}
+TYPES = {"object": dict, "array": list, "string": str, "boolean": bool, "integer": int, "null": type(None)}
 
 
 def fault(value, schema):
@@ -16,6 +16,12 @@ def fault(value, schema):
     if jsonschema is None:
         return next(faults(value, schema, schema), None)
     return next((error.message for error in jsonschema.Draft202012Validator(schema).iter_errors(value)), None)
+
+
+def is_of(value, named):
+    """Whether the value has this type, or one of these."""
+    names = named if isinstance(named, list) else [named]
+    return type(value) in [TYPES[name] for name in names]
 
 
 def faults(value, schema, whole):
@@ -27,7 +33,10 @@ def faults(value, schema, whole):
         yield from faults(value, target, whole)
     for part in schema.get("allOf", []):
         yield from faults(value, part, whole)
-    if "type" in schema and not isinstance(value, TYPES[schema["type"]]):
+    parts = [list(faults(value, part, whole)) for part in schema.get("anyOf", [])]
+    if parts and all(parts):
+        yield f"{value!r} is none of these: {parts}"
+    if "type" in schema and not is_of(value, schema["type"]):
         yield f"{value!r} is no {schema['type']}"
         return
     if "const" in schema and value != schema["const"]:
