@@ -7,7 +7,7 @@ _landtree() {
         return
     fi
     case $before in
-    --policy | --save | --picture)
+    --policy | --diff | --save | --picture)
         mapfile -t COMPREPLY < <(compgen -f -- "$word")
         return
         ;;
@@ -17,7 +17,10 @@ _landtree() {
         ;;
     --as)
         local forms="c json"
-        [ "${COMP_WORDS[1]}" != check ] || forms="tap junit json"
+        case ${COMP_WORDS[1]} in
+        check) forms="tap junit json" ;;
+        rights | why) forms=json ;;
+        esac
         mapfile -t COMPREPLY < <(compgen -W "$forms" -- "$word")
         return
         ;;
@@ -35,8 +38,8 @@ _landtree() {
     run) options="--nodes --abi --history --policy --profile --save --strict --comments --explain --terse --help" ;;
     audit) options="--explain --terse --help" ;;
     schedule) options="--nodes --abi --history --picture --from --to --strict --explain --terse --help" ;;
-    rights) options="--policy --profile --nodes --layers --as --explain --terse --help" ;;
-    why) options="--policy --profile --nodes --explain --terse --help" ;;
+    rights) options="--policy --profile --all-profiles --diff --nodes --layers --as --explain --terse --help" ;;
+    why) options="--policy --profile --nodes --as --explain --terse --help" ;;
     learn) options="--policy --history --client --name --never --beneath --most --nodes --explain --terse --help" ;;
     check) options="--nodes --abi --policy --profile --quiet --verbose --as --explain --terse --help" ;;
     serve)
