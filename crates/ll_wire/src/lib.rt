@@ -53,5 +53,6 @@ pub use sink::write_out;
 pub use spelled::{is_entered, is_spelled};
 pub use steady::{read_steadily, write_steadily};
 pub use terminal::{escaped, shown};
+pub use token::number_of;
 pub use whole::write_whole;
 pub use write::{command_text, line_text, reply_text, reply_text_behind};

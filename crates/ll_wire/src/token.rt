@@ -80,7 +80,8 @@ fn is_plain(token: &str) -> bool
     }
 }
 
-pub(crate) fn number_of(token: &str) -> Option<u64>
+/// Returns the number that the token spells: decimal, without a sign or zeros in front.
+pub fn number_of(token: &str) -> Option<u64>
     ensures { Finds (SpellsNumber token.now) result }
 {
     if !is_plain(token) {
