@@ -7,7 +7,8 @@ use Rattle.std.specs.Cmp.{nat_cmp_total}
 use Rattle.std.specs.FinMap.{nat_cmp-IsAntisymmetric}
 use Rattle.std.specs.Ordering.{nat_cmp}
 use Rattle.std.proofs.Common.{sym, subst, ap, ◌∙◌, arith}
-use Rattle.std.proofs.lemmas.Bool.{ne_eqb, eq-eqb}
+use Rattle.std.proofs.lemmas.Bool.{eq-eqb}
+use Rattle.std.proofs.lemmas.List.{append_assoc, append-nil}
 use Rattle.ll_rights.specs.Map.{Map, get, has, len, remove}
 use Rattle.ll_rights.proofs.Maps.{get-remove_other}
 use Rattle.ll_rights.proofs.Sizes.{one_goes}
@@ -140,9 +141,15 @@ one_settled b m n ks k s g all known starved =
           g.gone;
     }
 
-pub map_push : {A : Type 0} (f : A → Knows) (xs : List A) (x : A) → map f (xs ++ x ∷ []) ≡ map f xs ++ f x ∷ []
-map_push f [] x = refl
-map_push f (y ∷ ys) x = ap (λ ks. f y ∷ ks) (map_push f ys x)
+-- one more of a list is known, and at its end all are
+pub map_next : {A : Type 0} (f : A → Knows) (all ks : List Knows) (xs rest : List A) (x : A) → all ≡ ks ++ map f xs
+    → xs ≡ x ∷ rest → all ≡ (ks ++ f x ∷ []) ++ map f rest
+map_next f all ks xs rest x is cut =
+    is ∙ ap (λ ys. ks ++ map f ys) cut ∙ sym (append_assoc ks (f x ∷ []) (map f rest))
+
+pub map_last : {A : Type 0} (f : A → Knows) (all ks : List Knows) (xs : List A) → all ≡ ks ++ map f xs → xs ≡ []
+    → ks ≡ all
+map_last f all ks xs is none = sym (is ∙ ap (λ ys. ks ++ map f ys) none ∙ append-nil ks)
 
 pub count_mapped : {A : Type 0} (f : A → Knows) (xs : List A) → length (map f xs) ≡ length xs
 count_mapped f [] = refl

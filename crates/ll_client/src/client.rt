@@ -5,8 +5,7 @@ ghost use Rattle.std.specs.Prelude.{◌≡◌, None};
 use crate::rider::Rider;
 use crate::shape::Shape;
 
-/// A client that has no walk under way.
-#[derive(Drop)]
+/// A client that has no walk under way. It can't be dropped: `close` takes it back.
 pub struct Client<N: Shape> {
     pub rider: Rider<N>,
     pub ghost idle: { rider.doing ≡ None },

@@ -33,7 +33,8 @@ fn settle<N: Shape>(
     ensures there { AllByRecursion (λ k. has (shown journal.now.world).clients k.number ≡ true)
         (map (λ c. c.rider) clients.items) }
 {
-    for client in clients {
+    let mut rest = clients.into_iter();
+    while let Some(client) = rest.next() {
         let Client { rider } = client;
         let Rider {
             number,
@@ -44,6 +45,7 @@ fn settle<N: Shape>(
         take_client(tie, &mut keeper, journal, number, seen, &mut pass);
         take_wants(tie, &mut keeper, journal, number, &mut wants);
     }
+    rest.destroy_empty();
 }
 
 /// Returns the history if the list holds all clients of the tree. Errors: the desk and the list, if it doesn't. (No two

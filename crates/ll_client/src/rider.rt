@@ -8,8 +8,7 @@ use crate::shape::Shape;
 use std::marker::Model;
 
 /// A client: its number, its last known entry, and the passes of its account and of its wants. Contracts also see its
-/// part of the history, its calls that got NoMemory, and the call of its walk.
-#[derive(Drop)]
+/// part of the history, its calls that got NoMemory, and the call of its walk. It can't be dropped.
 pub struct Rider<N: Shape> {
     pub(crate) number: u64,
     pub(crate) seen: u64,
