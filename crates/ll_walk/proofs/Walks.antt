@@ -4,7 +4,11 @@ use Rattle.std.specs.Prelude.{true, [], ◌∷◌, ◌++◌}
 use Rattle.ll_seq.specs.Passed.{has_path}
 use Rattle.ll_seq.specs.Memory.{takes_memory}
 use Rattle.ll_seq.specs.declared.call.Call.{Call}
+use Rattle.ll_journal.specs.Book.{Book}
+use Rattle.ll_journal.specs.Starts.{Starts}
 use Rattle.ll_journal.specs.declared.direct.Made.{Made}
+use Rattle.ll_journal.specs.declared.start.Start.{Start}
+use Rattle.ll_journal.specs.declared.start.Start.TheVariants as start
 use Rattle.ll_journal.specs.declared.direct.Made.TheVariants as made
 use Rattle.ll_client.specs.declared.left.Left.{Left}
 use Rattle.ll_client.specs.declared.left.Left.TheVariants as left
@@ -75,3 +79,8 @@ pub idle_after : (limit : ℕ) (call : Call) (k : Knows) (it : Made) (k' : Knows
 idle_after limit call k (made.Replied reply) k' idle g = ap (λ (x : Knows). x.doing) g.2
 idle_after limit call k made.HistoryFull k' idle g = ap (λ (x : Knows). x.doing) g.1 ∙ idle
 idle_after limit call k made.NoMemory k' idle g = ap (λ (x : Knows). x.doing) g.2 ∙ idle
+
+-- a call that is given back is the one that was made
+pub given_back : (b w : Book) (n : ℕ) (call : Call) (it : Start) (back : Call) → Starts b n call it w
+    → it ≡ start.Back back → back ≡ call
+given_back b w n call it back s is = (subst (λ (x : Start). Starts b n call x w) is s).0

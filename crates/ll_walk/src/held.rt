@@ -2,9 +2,12 @@
 
 ghost use Rattle.std.specs.Prelude.{◌≡◌, ◌<◌, ℕ, IfSome};
 ghost use Rattle.std.specs.List.{AllByRecursion};
+ghost use Rattle.std.specs.Sync.Mutex.{mutex_guard_value};
+ghost use Rattle.ll_client.specs.Entries.{Kept};
 ghost use Rattle.ll_client.specs.Gains.{Goes};
+ghost use Rattle.ll_walk.specs.Sections.{AreThere};
 
-use crate::section::Section;
+use crate::section::{Section, View};
 use ll_client::{Account, Leaving, Left, Locked, Rider, Shape, Tie};
 use std::sync::MutexGuard;
 
@@ -49,6 +52,17 @@ fn number_in<N: Shape>(place: &Place<'_, N>, otherwise: u64) -> u64 {
 }
 
 impl<'a, N: Shape> Split<'a, N> {
+    /// The lock of a walk above its fork, which is in this directory.
+    pub(crate) fn of(here: MutexGuard<'a, Locked<N>>) -> Split<'a, N>
+        ensures { mutex_guard_value {X = Kept} result.common ≡ mutex_guard_value {X = Kept} here.entry }
+    {
+        Split {
+            common: here,
+            first: None,
+            second: None,
+        }
+    }
+
     /// The numbers of the locked slots. A leg that is still in the fork's directory counts as that.
     fn numbers(&self) -> [u64; 3] {
         let common = self.common.number();
@@ -80,13 +94,39 @@ impl<'a, N: Shape> Split<'a, N> {
             first,
             second,
         } = self;
-        let way = match (first, second) {
+        let (way, spent) = match (first, second) {
             (None, None) => section.slot_in_way_here(tie, me, common),
             (Some(a), None) => section.slot_in_way(tie, me, a, common),
             (None, Some(b)) => section.slot_in_way(tie, me, common, b),
             (Some(a), Some(b)) => section.slot_in_way(tie, me, a, b),
         };
+        drop(spent);
         unless_held(way, &held)
+    }
+
+    /// Looks where the walk is past its fork, and for its next step.
+    pub(crate) fn view(
+        &mut self,
+        section: Section<'_, N>,
+        tie: &Tie<N, Account>,
+        me: &Rider<N>,
+    ) -> View
+        ensures { AreThere N.slots result.next }
+    {
+        let Split {
+            common,
+            first,
+            second,
+        } = self;
+        let (view, spent) = match second {
+            Some(here) => section.view(tie, me, here, common),
+            None => match first {
+                Some(here) => section.view(tie, me, here, common),
+                None => section.view_here(tie, me, common),
+            },
+        };
+        drop(spent);
+        view
     }
 
     /// Commits or restarts the walk with all held slots, and with one more if given.
@@ -105,7 +145,7 @@ impl<'a, N: Shape> Split<'a, N> {
             first,
             second,
         } = self;
-        match (first, second, last) {
+        let (left, spent) = match (first, second, last) {
             (None, None, None) => section.leave_1(tie, me, common, leaving),
             (Some(a), None, None) => section.leave_2(tie, me, common, a, leaving),
             (None, Some(b), None) => section.leave_2(tie, me, common, b, leaving),
@@ -114,6 +154,8 @@ impl<'a, N: Shape> Split<'a, N> {
             (Some(a), None, Some(d)) => section.leave_3(tie, me, common, a, d, leaving),
             (None, Some(b), Some(d)) => section.leave_3(tie, me, common, b, d, leaving),
             (Some(a), Some(b), Some(d)) => section.leave_4(tie, me, common, a, b, d, leaving),
-        }
+        };
+        drop(spent);
+        left
     }
 }

@@ -5,6 +5,7 @@ ghost use Rattle.ll_walk.specs.Sections.{Came};
 
 use crate::gate::Gate;
 use crate::table::Table;
+use crate::waiter::Waiter;
 use ll_client::{Rider, Shape};
 use ll_journal::Made;
 use std::sync::{MutexGuard, Wait};
@@ -14,11 +15,11 @@ const FREE_STARTS: u64 = 3;
 
 impl<N: Shape, G: Gate<N>> Table<N, G> {
     /// Starts the walk until its call is answered.
-    fn last_start<R: Wait>(&self, rt: &R, me: &mut Rider<N>) -> Made
+    fn last_start<R: Wait>(&self, waiter: &mut Waiter<'_, R>, me: &mut Rider<N>) -> Made
         ensures { Came N.limit me.old (Some result) me.new }
     {
-        for _ in rt.forever() {
-            if let Some(made) = self.start(rt, me) {
+        for _ in waiter.forever() {
+            if let Some(made) = self.start(waiter, me) {
                 return made;
             }
         }
@@ -28,22 +29,22 @@ impl<N: Shape, G: Gate<N>> Table<N, G> {
     /// Leads the client's walk to its reply. A walk that doesn't hold the move gate yet takes it after three starts.
     pub(crate) fn lead<'a, R: Wait>(
         &'a self,
-        rt: &R,
+        waiter: &mut Waiter<'_, R>,
         me: &mut Rider<N>,
         moving: Option<MutexGuard<'a, ()>>,
     ) -> Made
         ensures { Came N.limit me.old (Some result) me.new }
     {
         for _ in 0..FREE_STARTS {
-            if let Some(made) = self.start(rt, me) {
+            if let Some(made) = self.start(waiter, me) {
                 return made;
             }
         }
         let moving = match moving {
             Some(guard) => guard,
-            None => self.soon(rt, &self.moving),
+            None => waiter.gate(self),
         };
-        let made = self.last_start(rt, me);
+        let made = self.last_start(waiter, me);
         drop(moving);
         made
     }

@@ -1,17 +1,17 @@
 //! A tree shared by threads: one lock for each slot, and walks that lock hand over hand on their way down.
 #![tactic(auto)]
 
-mod branches;
 mod call;
-mod direct;
+mod descents;
 mod gate;
 mod held;
 mod lead;
-mod leave;
+mod queue;
 mod section;
 mod start;
 mod table;
+mod waiter;
 
 pub use gate::{Gate, NoGate};
-pub use section::{Coming, Section, View};
+pub use section::{Coming, Due, Landing, Section, Spent, View};
 pub use table::Table;

@@ -1,9 +1,13 @@
-//! The locked journal.
+//! The journal's lock, and what is done while it is held.
+
+mod direct;
+mod due;
+mod leave;
 
 ghost use Rattle.std.specs.Prelude.{◌≡◌, ◌≢◌, ◌<◌, ◌≤◌, ◌+◌, ℕ, ◌∷◌, [], Some, IfSome, IfNone, length, max};
 ghost use Rattle.ll_rights.specs.declared.limits.TheConstants.{TREE_CLIENTS};
 ghost use Rattle.std.specs.Sync.Mutex.{mutex_guard_value};
-ghost use Rattle.ll_journal.specs.Book.{Book};
+ghost use Rattle.ll_journal.specs.Book.{inode_in};
 ghost use Rattle.ll_journal.specs.InWay.{IsFreeFrom, IsInWay};
 ghost use Rattle.ll_journal.specs.NextStep.{ComesNext};
 ghost use Rattle.ll_journal.specs.Onward.{Names};
@@ -12,13 +16,16 @@ ghost use Rattle.ll_laws.specs.declared.step.Step.TheVariants.{Descend, Fork};
 ghost use Rattle.ll_walk.specs.Sections.{AreThere, IsComing, IsView, IsViewAfter, IsViewFrom, Sees, SeesAfter, Shows};
 ghost use Rattle.ll_seq.specs.declared.call.Call.{Call};
 ghost use Rattle.ll_seq.specs.History.{IsLegal};
-ghost use Rattle.ll_seq.specs.State.{start};
+ghost use Rattle.ll_seq.specs.State.{root, start};
 ghost use Rattle.ll_laws.specs.Walks.{AreApart, AreFew, AreValid, GateIsHeld};
 ghost use Rattle.ll_journal.specs.SlotTree.{HoldTree, accounts_of};
 
+use crate::queue::Queue;
+pub use due::Due;
+pub(crate) use due::DueGate;
 use ll_client::{Account, Client, Desk, Locked, ReadsHistory, Rider, Shape, Tie};
 use ll_journal::{Next, Onward, Progress, Station};
-use std::sync::MutexGuard;
+use std::sync::{Mutex, MutexGuard, Wait};
 
 /// What a look at a walk past its fork finds: where it is, and its next step.
 #[derive(Drop)]
@@ -34,10 +41,72 @@ pub enum Coming {
     Other(Next),
 }
 
-/// The locked journal. Each method that consumes it does one thing and releases the lock. No other lock is waited for
-/// while it is held.
+/// The journal behind its lock.
+#[derive(Drop)]
+pub(crate) struct DeskLock<N: Shape> {
+    desk: Mutex<Desk<N>>,
+}
+
+impl<N: Shape> DeskLock<N> {
+    /// Puts the journal behind a lock.
+    pub(crate) fn new(desk: Desk<N>) -> DeskLock<N> {
+        DeskLock {
+            desk: Mutex::new(desk),
+        }
+    }
+
+    /// Returns what the lock guards.
+    pub(crate) fn into_desk(self) -> Desk<N> {
+        let DeskLock { desk } = self;
+        desk.into_inner()
+    }
+
+    /// Takes the lock.
+    #[inline(always)]
+    pub(crate) fn section<R: Wait>(&self, rt: &R, queue: &Queue) -> Section<'_, N> {
+        Section {
+            desk: queue.soon(rt, &self.desk),
+        }
+    }
+}
+
+/// The locked journal. Each method that consumes it does one thing, and hands the lock back spent. No other lock is
+/// waited for while it is held.
 pub struct Section<'a, N: Shape> {
-    pub(crate) desk: MutexGuard<'a, Desk<N>>,
+    desk: MutexGuard<'a, Desk<N>>,
+}
+
+/// The journal's lock after the one thing was done. It can only be released.
+#[derive(Drop)]
+pub struct Spent<'a, N: Shape> {
+    desk: MutexGuard<'a, Desk<N>>,
+}
+
+/// A descent of this client's walk, made or not, and the journal's lock, spent.
+pub struct Landing<'a, N: Shape> {
+    desk: MutexGuard<'a, Desk<N>>,
+    client: u64,
+    progress: Progress,
+}
+
+impl<'a, N: Shape> Landing<'a, N> {
+    /// Releases the lock. Returns the call of the gate that a descent owes. None if there was no descent.
+    pub fn released(self) -> Option<Due<'a>>
+        ensures due { IfSome result (λ due. (self.entry.progress ≡ Progress.Stands due.inode)
+            × (due.client ≡ self.entry.client)) }
+        ensures none { IfNone result ((inode : ℕ) → self.entry.progress ≢ Progress.Stands inode) }
+    {
+        let Landing {
+            desk,
+            client,
+            progress,
+        } = self;
+        drop(desk);
+        match progress {
+            Progress::Stands(inode) => Some(Due::new(client, inode)),
+            _ => None,
+        }
+    }
 }
 
 /// Finds the walk's next step, given its current leg's slot.
@@ -194,19 +263,28 @@ impl<'a, N: Shape> Section<'a, N> {
         tie: &Tie<N, Account>,
         me: &mut Rider<N>,
         root: &mut Locked<N>,
-    ) -> (Progress, Coming)
-        ensures step { (w : Book) × (Does (mutex_guard_value self.entry.desk) (Descend me.old.number) result.0 w
-            × Sees w me.old.number root.old.number result.1)
-            × Shows (mutex_guard_value self.entry.desk) w (root.old ∷ []) (root.new ∷ []) }
-        ensures stands { (inode : ℕ) → result.0 ≡ Progress.Stands inode
+    ) -> (Landing<'a, N>, Coming)
+        ensures step { Does (mutex_guard_value self.entry.desk) (Descend me.old.number) result.0.progress
+            (mutex_guard_value result.0.desk) }
+        ensures sees { Sees (mutex_guard_value result.0.desk) me.old.number root.old.number result.1 }
+        ensures shows { Shows (mutex_guard_value self.entry.desk) (mutex_guard_value result.0.desk) (root.old ∷ [])
+            (root.new ∷ []) }
+        ensures stands { (inode : ℕ) → result.0.progress ≡ Progress.Stands inode
             → (root.new.held.inode ≡ inode) × (root.new.held.node.mark ≡ Some me.old.number) }
+        ensures client { result.0.client ≡ me.old.number }
         ensures there { IsComing N.slots me.new.doing root.new result.1 }
         ensures mine { me.new ≡ me.old }
     {
         let Section { mut desk } = self;
+        let client = me.number();
         let progress = desk.enter(tie, me, root);
         let coming = coming_at(&mut desk, tie, me, root);
-        (progress, coming)
+        let landing = Landing {
+            desk,
+            client,
+            progress,
+        };
+        (landing, coming)
     }
 
     /// Makes a descent above the fork, to the directory that the last look found, and finds what the walk does next.
@@ -217,23 +295,33 @@ impl<'a, N: Shape> Section<'a, N> {
         from: &mut Locked<N>,
         to: &mut Locked<N>,
         on: Onward,
-    ) -> (Progress, Coming)
+    ) -> (Landing<'a, N>, Coming)
         requires { (call : Call) → me.old.doing ≡ Some call → Names call from.old.held on.depth on.inode }
-        ensures step { (w : Book) × (Does (mutex_guard_value self.entry.desk) (Descend me.old.number) result.0 w
-            × SeesAfter w me.old.number from.old.number to.old.number result.0 result.1)
-            × Shows (mutex_guard_value self.entry.desk) w (from.old ∷ to.old ∷ []) (from.new ∷ to.new ∷ []) }
-        ensures stands { (inode : ℕ) → result.0 ≡ Progress.Stands inode
+        ensures step { Does (mutex_guard_value self.entry.desk) (Descend me.old.number) result.0.progress
+            (mutex_guard_value result.0.desk) }
+        ensures sees { SeesAfter (mutex_guard_value result.0.desk) me.old.number from.old.number to.old.number
+            result.0.progress result.1 }
+        ensures shows { Shows (mutex_guard_value self.entry.desk) (mutex_guard_value result.0.desk)
+            (from.old ∷ to.old ∷ []) (from.new ∷ to.new ∷ []) }
+        ensures stands { (inode : ℕ) → result.0.progress ≡ Progress.Stands inode
             → (to.new.held.inode ≡ inode) × (to.new.held.node.mark ≡ Some me.old.number) }
-        ensures there { (inode : ℕ) → result.0 ≡ Progress.Stands inode
+        ensures client { result.0.client ≡ me.old.number }
+        ensures there { (inode : ℕ) → result.0.progress ≡ Progress.Stands inode
             → IsComing N.slots me.new.doing to.new result.1 }
-        ensures still { ((inode : ℕ) → result.0 ≢ Progress.Stands inode)
+        ensures still { ((inode : ℕ) → result.0.progress ≢ Progress.Stands inode)
             → IsComing N.slots me.new.doing from.new result.1 }
         ensures mine { me.new ≡ me.old }
     {
         let Section { mut desk } = self;
+        let client = me.number();
         let progress = desk.descend_onward(tie, me, from, to, on);
         let coming = coming_after(&mut desk, tie, me, &progress, from, to);
-        (progress, coming)
+        let landing = Landing {
+            desk,
+            client,
+            progress,
+        };
+        (landing, coming)
     }
 
     /// Makes a descent from the fork's directory, and finds where the walk is and its next step.
@@ -243,19 +331,29 @@ impl<'a, N: Shape> Section<'a, N> {
         me: &mut Rider<N>,
         from: &mut Locked<N>,
         to: &mut Locked<N>,
-    ) -> (Progress, View)
-        ensures step { (w : Book) × (Does (mutex_guard_value self.entry.desk) (Descend me.old.number) result.0 w
-            × IsViewFrom w me.old.number to.old.number from.old.number result.1)
-            × Shows (mutex_guard_value self.entry.desk) w (from.old ∷ to.old ∷ []) (from.new ∷ to.new ∷ []) }
-        ensures stands { (inode : ℕ) → result.0 ≡ Progress.Stands inode
+    ) -> (Landing<'a, N>, View)
+        ensures step { Does (mutex_guard_value self.entry.desk) (Descend me.old.number) result.0.progress
+            (mutex_guard_value result.0.desk) }
+        ensures sees { IsViewFrom (mutex_guard_value result.0.desk) me.old.number to.old.number from.old.number
+            result.1 }
+        ensures shows { Shows (mutex_guard_value self.entry.desk) (mutex_guard_value result.0.desk)
+            (from.old ∷ to.old ∷ []) (from.new ∷ to.new ∷ []) }
+        ensures stands { (inode : ℕ) → result.0.progress ≡ Progress.Stands inode
             → (to.new.held.inode ≡ inode) × (to.new.held.node.mark ≡ Some me.old.number) }
+        ensures client { result.0.client ≡ me.old.number }
         ensures there { AreThere N.slots result.1.next }
         ensures mine { me.new ≡ me.old }
     {
         let Section { mut desk } = self;
+        let client = me.number();
         let progress = desk.descend(tie, me, from, to);
         let view = view_from(&mut desk, tie, me, to, from);
-        (progress, view)
+        let landing = Landing {
+            desk,
+            client,
+            progress,
+        };
+        (landing, view)
     }
 
     /// Makes a descent from below the fork's directory, whose lock is held too, and finds where the walk is and its
@@ -267,20 +365,30 @@ impl<'a, N: Shape> Section<'a, N> {
         common: &mut Locked<N>,
         from: &mut Locked<N>,
         to: &mut Locked<N>,
-    ) -> (Progress, View)
-        ensures step { (w : Book) × (Does (mutex_guard_value self.entry.desk) (Descend me.old.number) result.0 w
-            × IsViewAfter w me.old.number common.old.number from.old.number to.old.number result.0 result.1)
-            × Shows (mutex_guard_value self.entry.desk) w (from.old ∷ to.old ∷ []) (from.new ∷ to.new ∷ []) }
-        ensures stands { (inode : ℕ) → result.0 ≡ Progress.Stands inode
+    ) -> (Landing<'a, N>, View)
+        ensures step { Does (mutex_guard_value self.entry.desk) (Descend me.old.number) result.0.progress
+            (mutex_guard_value result.0.desk) }
+        ensures sees { IsViewAfter (mutex_guard_value result.0.desk) me.old.number common.old.number from.old.number
+            to.old.number result.0.progress result.1 }
+        ensures shows { Shows (mutex_guard_value self.entry.desk) (mutex_guard_value result.0.desk)
+            (from.old ∷ to.old ∷ []) (from.new ∷ to.new ∷ []) }
+        ensures stands { (inode : ℕ) → result.0.progress ≡ Progress.Stands inode
             → (to.new.held.inode ≡ inode) × (to.new.held.node.mark ≡ Some me.old.number) }
+        ensures client { result.0.client ≡ me.old.number }
         ensures common { common.new ≡ common.old }
         ensures there { AreThere N.slots result.1.next }
         ensures mine { me.new ≡ me.old }
     {
         let Section { mut desk } = self;
+        let client = me.number();
         let progress = desk.descend(tie, me, from, to);
         let view = view_below(&mut desk, tie, me, &progress, common, from, to);
-        (progress, view)
+        let landing = Landing {
+            desk,
+            client,
+            progress,
+        };
+        (landing, view)
     }
 
     /// Splits the client's walk into one leg for each path, and finds where it is and its next step.
@@ -289,9 +397,11 @@ impl<'a, N: Shape> Section<'a, N> {
         tie: &Tie<N, Account>,
         me: &mut Rider<N>,
         here: &mut Locked<N>,
-    ) -> (Progress, View)
-        ensures step { (w : Book) × (Does (mutex_guard_value self.entry.desk) (Fork me.old.number) result.0 w
-            × IsView w me.old.number here.old.number result.1) × Shows (mutex_guard_value self.entry.desk) w [] [] }
+    ) -> (Progress, View, Spent<'a, N>)
+        ensures step { Does (mutex_guard_value self.entry.desk) (Fork me.old.number) result.0
+            (mutex_guard_value result.2.desk) }
+        ensures sees { IsView (mutex_guard_value result.2.desk) me.old.number here.old.number result.1 }
+        ensures shows { Shows (mutex_guard_value self.entry.desk) (mutex_guard_value result.2.desk) [] [] }
         ensures here { here.new ≡ here.old }
         ensures there { AreThere N.slots result.1.next }
         ensures mine { me.new ≡ me.old }
@@ -299,7 +409,7 @@ impl<'a, N: Shape> Section<'a, N> {
         let Section { mut desk } = self;
         let progress = desk.fork(tie, me);
         let view = view_at(&mut desk, tie, me, here);
-        (progress, view)
+        (progress, view, Spent { desk })
     }
 
     /// Finds where a walk past its fork is and its next step. Its current leg is in one of the two slots.
@@ -309,15 +419,17 @@ impl<'a, N: Shape> Section<'a, N> {
         me: &Rider<N>,
         one: &mut Locked<N>,
         other: &mut Locked<N>,
-    ) -> View
+    ) -> (View, Spent<'a, N>)
+        ensures kept { mutex_guard_value result.1.desk ≡ mutex_guard_value self.entry.desk }
         ensures one { one.new ≡ one.old }
         ensures other { other.new ≡ other.old }
-        ensures there { AreThere N.slots result.next }
+        ensures there { AreThere N.slots result.0.next }
         ensures sees { IsViewFrom (mutex_guard_value self.entry.desk) me.now.number one.old.number
-            other.old.number result }
+            other.old.number result.0 }
     {
         let Section { mut desk } = self;
-        view_from(&mut desk, tie, me, one, other)
+        let view = view_from(&mut desk, tie, me, one, other);
+        (view, Spent { desk })
     }
 
     /// Finds what the walk does next above its fork, from the slot where it is.
@@ -326,24 +438,33 @@ impl<'a, N: Shape> Section<'a, N> {
         tie: &Tie<N, Account>,
         me: &mut Rider<N>,
         here: &mut Locked<N>,
-    ) -> Coming
+    ) -> (Coming, Spent<'a, N>)
+        ensures kept { mutex_guard_value result.1.desk ≡ mutex_guard_value self.entry.desk }
         ensures here { here.new ≡ here.old }
-        ensures there { IsComing N.slots me.new.doing here.new result }
-        ensures sees { Sees (mutex_guard_value self.entry.desk) me.old.number here.old.number result }
+        ensures there { IsComing N.slots me.new.doing here.new result.0 }
+        ensures sees { Sees (mutex_guard_value self.entry.desk) me.old.number here.old.number result.0 }
         ensures mine { me.new ≡ me.old }
     {
         let Section { mut desk } = self;
-        coming_at(&mut desk, tie, me, here)
+        let coming = coming_at(&mut desk, tie, me, here);
+        (coming, Spent { desk })
     }
 
     /// Finds where a walk past its fork is and its next step, from one slot.
-    pub fn view_here(self, tie: &Tie<N, Account>, me: &Rider<N>, here: &mut Locked<N>) -> View
+    pub fn view_here(
+        self,
+        tie: &Tie<N, Account>,
+        me: &Rider<N>,
+        here: &mut Locked<N>,
+    ) -> (View, Spent<'a, N>)
+        ensures kept { mutex_guard_value result.1.desk ≡ mutex_guard_value self.entry.desk }
         ensures here { here.new ≡ here.old }
-        ensures there { AreThere N.slots result.next }
-        ensures sees { IsView (mutex_guard_value self.entry.desk) me.now.number here.old.number result }
+        ensures there { AreThere N.slots result.0.next }
+        ensures sees { IsView (mutex_guard_value self.entry.desk) me.now.number here.old.number result.0 }
     {
         let Section { mut desk } = self;
-        view_at(&mut desk, tie, me, here)
+        let view = view_at(&mut desk, tie, me, here);
+        (view, Spent { desk })
     }
 
     /// For a walk at its ends: returns the slot of a node under a last name that another client's walk has marked,
@@ -354,20 +475,24 @@ impl<'a, N: Shape> Section<'a, N> {
         me: &Rider<N>,
         one: &mut Locked<N>,
         other: &mut Locked<N>,
-    ) -> Option<u64>
+    ) -> (Option<u64>, Spent<'a, N>)
+        ensures kept { mutex_guard_value result.1.desk ≡ mutex_guard_value self.entry.desk }
         ensures one { one.new ≡ one.old }
         ensures other { other.new ≡ other.old }
-        ensures way { IfSome result (IsInWay (mutex_guard_value self.entry.desk) me.now.number) }
-        ensures there { IfSome result (λ way. way < N.slots) }
-        ensures none_one { IfNone result
+        ensures way { IfSome result.0 (IsInWay (mutex_guard_value self.entry.desk) me.now.number) }
+        ensures there { IfSome result.0 (λ way. way < N.slots) }
+        ensures none_one { IfNone result.0
             (IsFreeFrom (mutex_guard_value self.entry.desk) me.now.number one.old.number) }
-        ensures none_other { IfNone result
+        ensures none_other { IfNone result.0
             (IsFreeFrom (mutex_guard_value self.entry.desk) me.now.number other.old.number) }
     {
         let Section { mut desk } = self;
         match slot_in_way(&mut desk, tie, me, one) {
-            Some(way) => Some(way),
-            None => slot_in_way(&mut desk, tie, me, other),
+            Some(way) => (Some(way), Spent { desk }),
+            None => {
+                let way = slot_in_way(&mut desk, tie, me, other);
+                (way, Spent { desk })
+            }
         }
     }
 
@@ -378,19 +503,27 @@ impl<'a, N: Shape> Section<'a, N> {
         tie: &Tie<N, Account>,
         me: &Rider<N>,
         here: &mut Locked<N>,
-    ) -> Option<u64>
+    ) -> (Option<u64>, Spent<'a, N>)
+        ensures kept { mutex_guard_value result.1.desk ≡ mutex_guard_value self.entry.desk }
         ensures here { here.new ≡ here.old }
-        ensures way { IfSome result (IsInWay (mutex_guard_value self.entry.desk) me.now.number) }
-        ensures there { IfSome result (λ way. way < N.slots) }
-        ensures none { IfNone result
+        ensures way { IfSome result.0 (IsInWay (mutex_guard_value self.entry.desk) me.now.number) }
+        ensures there { IfSome result.0 (λ way. way < N.slots) }
+        ensures none { IfNone result.0
             (IsFreeFrom (mutex_guard_value self.entry.desk) me.now.number here.old.number) }
     {
         let Section { mut desk } = self;
-        slot_in_way(&mut desk, tie, me, here)
+        let way = slot_in_way(&mut desk, tie, me, here);
+        (way, Spent { desk })
     }
 
     /// Each of the two now knows of every entry that either knew of. Adds no entry.
-    pub fn meet(self, tie: &Tie<N, Account>, one: &mut Client<N>, other: &mut Client<N>)
+    pub fn meet(
+        self,
+        tie: &Tie<N, Account>,
+        one: &mut Client<N>,
+        other: &mut Client<N>,
+    ) -> Spent<'a, N>
+        ensures kept { mutex_guard_value result.desk ≡ mutex_guard_value self.entry.desk }
         ensures one { one.new.rider
             ≡ record one.old.rider { seen = max one.old.rider.seen other.old.rider.seen } }
         ensures other { other.new.rider
@@ -398,16 +531,19 @@ impl<'a, N: Shape> Section<'a, N> {
     {
         let Section { mut desk } = self;
         desk.meet(tie, one, other);
+        Spent { desk }
     }
 
     /// The client now knows of all entries made so far. Adds no entry.
-    pub fn catch_up(self, tie: &Tie<N, Account>, me: &mut Client<N>)
+    pub fn catch_up(self, tie: &Tie<N, Account>, me: &mut Client<N>) -> Spent<'a, N>
+        ensures kept { mutex_guard_value result.desk ≡ mutex_guard_value self.entry.desk }
         ensures low { me.old.rider.seen ≤ me.new.rider.seen }
         ensures mine { me.new.rider
             ≡ record me.old.rider { seen = length (mutex_guard_value self.entry.desk).world.history } }
     {
         let Section { mut desk } = self;
         desk.catch_up(tie, me);
+        Spent { desk }
     }
 
     /// Lets the reader read the history. It holds every entry that the client knows of. Nothing changes.
@@ -416,7 +552,8 @@ impl<'a, N: Shape> Section<'a, N> {
         tie: &Tie<N, Account>,
         me: &mut Client<N>,
         reader: &mut V,
-    )
+    ) -> Spent<'a, N>
+        ensures kept { mutex_guard_value result.desk ≡ mutex_guard_value self.entry.desk }
         ensures mine { me.new.rider ≡ me.old.rider }
         ensures known { me.old.rider.seen ≤ length (mutex_guard_value self.entry.desk).world.history }
         ensures read { V.reads reader.old (mutex_guard_value self.entry.desk).world.history reader.new }
@@ -426,15 +563,19 @@ impl<'a, N: Shape> Section<'a, N> {
         let Section { mut desk } = self;
         desk.by_law();
         desk.read_history(tie, me, reader);
+        Spent { desk }
     }
 
     /// Returns the slot of the root.
-    pub fn root_slot(self) -> u64
-        ensures { result < N.slots }
+    pub fn root_slot(self) -> (u64, Spent<'a, N>)
+        ensures kept { mutex_guard_value result.1.desk ≡ mutex_guard_value self.entry.desk }
+        ensures root { inode_in (mutex_guard_value self.entry.desk) result.0 ≡ root }
+        ensures within { result.0 < N.slots }
     {
         let Section { desk } = self;
         desk.by_law();
-        desk.root_slot()
+        let slot = desk.root_slot();
+        (slot, Spent { desk })
     }
 
     /// Does nothing when it runs. Its contract: what holds of the tree behind the locks, after any steps.

@@ -7,45 +7,12 @@ ghost use Rattle.ll_client.specs.Entries.{Kept};
 ghost use Rattle.ll_rights.specs.declared.limits.TheConstants.{HISTORY_ENTRIES, TREE_CLIENTS, TREE_NODES};
 
 use crate::gate::Gate;
-use crate::section::Section;
-use ll_client::{Account, Blank, Client, Desk, Locked, Opened, Shape, Tie, close, open};
+use crate::queue::Queue;
+use crate::section::{DeskLock, DueGate, Section};
+use ll_client::{Account, Blank, Client, Locked, Opened, Shape, Tie, close, open};
 use ll_seq::{History, Rules};
 use std::alloc::{AllocError, Global};
-use std::hint::spin_loop;
-use std::sync::atomic::{AtomicU64, Ordering};
 use std::sync::{Mutex, MutexGuard, Wait};
-use std::thread;
-
-/// How often a thread tries a lock that another holds before it sleeps until the lock is released.
-const TRIES: u32 = 20;
-
-/// How many pauses the processor makes before the first try. Their number doubles before each further one, up to the
-/// most.
-const PAUSES: u32 = 16;
-
-const MOST_PAUSES: u32 = 512;
-
-/// The most threads that wait awake. More would take the processors from the threads that hold the locks.
-const MOST_AWAKE: u64 = 3;
-
-/// Takes the lock if it is released within a while.
-fn tried<T>(lock: &Mutex<T>) -> Option<MutexGuard<'_, T>> {
-    let mut pauses = PAUSES;
-    for _ in 0..TRIES {
-        for _ in 0..pauses {
-            spin_loop();
-        }
-        if let Some(guard) = lock.try_lock() {
-            return Some(guard);
-        }
-        if pauses < MOST_PAUSES {
-            pauses *= 2;
-        } else {
-            thread::yield_now();
-        }
-    }
-    None
-}
 
 /// A tree shared by threads: one lock for each slot, one for the journal, and the move gate.
 #[derive(Drop)]
@@ -53,11 +20,10 @@ pub struct Table<N: Shape, G: Gate<N>> {
     pub(crate) tie: Tie<N, Account>,
     pub(crate) slots: Vec<Mutex<Locked<N>>>,
     pub(crate) root: u64,
-    pub(crate) desk: Mutex<Desk<N>>,
+    pub(crate) desk: DeskLock<N>,
     pub(crate) moving: Mutex<()>,
-    pub(crate) gate: G,
-    /// The number of threads that wait for one of these locks.
-    pub(crate) waiting: AtomicU64,
+    pub(crate) gate: DueGate<G>,
+    pub(crate) queue: Queue,
     ghost all_slots: { vec_len slots ≡ N.slots },
     ghost root_there: { root < N.slots },
 }
@@ -103,10 +69,10 @@ impl<N: Shape, G: Gate<N>> Table<N, G> {
             tie,
             slots: locks(alloc, slots)?,
             root,
-            desk: Mutex::new(desk),
+            desk: DeskLock::new(desk),
             moving: Mutex::new(()),
-            gate,
-            waiting: AtomicU64::new(0),
+            gate: DueGate::new(gate),
+            queue: Queue::new(),
         })
     }
 
@@ -125,9 +91,9 @@ impl<N: Shape, G: Gate<N>> Table<N, G> {
             desk,
             moving,
             gate,
-            waiting,
+            queue,
         } = self;
-        let desk = desk.into_inner();
+        let desk = desk.into_desk();
         desk.by_law();
         match close(&tie, desk, clients) {
             Ok(history) => Ok(history),
@@ -136,48 +102,20 @@ impl<N: Shape, G: Gate<N>> Table<N, G> {
                     tie,
                     slots,
                     root,
-                    desk: Mutex::new(desk),
+                    desk: DeskLock::new(desk),
                     moving,
                     gate,
-                    waiting,
+                    queue,
                 };
                 Err((table, clients))
             }
         }
     }
 
-    /// Takes a lock that another thread holds. Locks are held briefly, and waking a thread is slow: if few threads
-    /// wait, this one tries for a while before it sleeps.
-    fn late<'a, T, R: Wait>(&self, rt: &R, lock: &'a Mutex<T>) -> MutexGuard<'a, T> {
-        let others = self.waiting.fetch_add(1, Ordering::Relaxed);
-        let found = if others < MOST_AWAKE {
-            tried(lock)
-        } else {
-            None
-        };
-        let guard = match found {
-            Some(guard) => guard,
-            None => lock.lock(rt),
-        };
-        let _ = self.waiting.fetch_sub(1, Ordering::Relaxed);
-        guard
-    }
-
-    /// Takes the lock.
-    #[inline(always)]
-    pub(crate) fn soon<'a, T, R: Wait>(&self, rt: &R, lock: &'a Mutex<T>) -> MutexGuard<'a, T> {
-        match lock.try_lock() {
-            Some(guard) => guard,
-            None => self.late(rt, lock),
-        }
-    }
-
     /// Locks the journal.
     #[inline(always)]
     pub fn section<R: Wait>(&self, rt: &R) -> Section<'_, N> {
-        Section {
-            desk: self.soon(rt, &self.desk),
-        }
+        self.desk.section(rt, &self.queue)
     }
 
     /// Locks the slot of this number.
@@ -189,21 +127,11 @@ impl<N: Shape, G: Gate<N>> Table<N, G> {
         // No type says that the lock at this index is that of the slot of this number. The number is checked, and
         // always matches.
         for _ in rt.forever() {
-            let guard = self.soon(rt, &self.slots[slot as usize]);
+            let guard = self.queue.soon(rt, &self.slots[slot as usize]);
             if guard.number() == slot {
                 return guard;
             }
         }
         unreachable!()
-    }
-
-    /// Waits until the slot of this number is free. Without a number, yields the processor once.
-    pub(crate) fn wait_for<R: Wait>(&self, rt: &R, slot: Option<u64>)
-        requires { IfSome slot (λ slot. slot < N.slots) }
-    {
-        match slot {
-            Some(slot) => drop(self.locked(rt, slot)),
-            None => thread::yield_now(),
-        }
     }
 }

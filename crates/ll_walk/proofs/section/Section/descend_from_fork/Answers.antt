@@ -1,23 +1,11 @@
-use Rattle.std.proofs.Common.{◌∙◌, ap}
-use Rattle.ll_journal.specs.Steps.{Does}
-use Rattle.ll_laws.specs.declared.step.Step.TheVariants.{Descend}
+use Rattle.std.proofs.Common.{◌∙◌, ap, sym}
 use Rattle.ll_client.specs.Entries.{Kept, Knows}
-use Rattle.ll_walk.specs.Sections.{IsViewFrom}
 use Rattle.ll_walk.proofs.Looks.{view_from_as}
-use Rattle.ll_walk.proofs.Shown.{shows_2, stepped, turns}
 use Rattle.ll_walk.proofs.section.Section.descend_from_fork.Goals as goal
 
-pub returns-clause-step : goal.returns-clause-step
-returns-clause-step g c =
-    let w = c.descend-progress.new.self in
+pub returns-clause-sees : goal.returns-clause-sees
+returns-clause-sees g c =
     let done = c.descend-progress.ensures in
     let still = c.view_from-view.ensures in
-    stepped (λ b x. Does b (Descend c.args.me.now.number) c.descend-progress.result x
-    × IsViewFrom x c.args.me.now.number c.args.to.now.number c.args.from.now.number c.view_from-view.result) _ _ w _ _
-    c.deref_mut.ensures.value (
-      done.does,
-      view_from_as _ _ _ _ _ _ _ _ _ c.deref_mut-2.ensures.value (ap (λ (k : Knows). k.number) done.mine)
-          (ap (λ (k : Kept). k.number) done.to_after) (ap (λ (k : Kept). k.number) done.from_after) still.sees,
-    )
-    (shows_2 _ w _ _ _ _ (turns _ w _ _ done.from_before (still.other ∙ done.from_after))
-    (turns _ w _ _ done.to_before (still.one ∙ done.to_after)) done.spares)
+    view_from_as _ _ _ _ _ _ _ _ _ (sym still.desk) (ap (λ (k : Knows). k.number) done.mine)
+    (ap (λ (k : Kept). k.number) done.to_after) (ap (λ (k : Kept). k.number) done.from_after) still.sees

@@ -8,7 +8,7 @@ use Rattle.ll_walk.proofs.table.Table.close.Goals as goal
 
 pub returns-in-Ok-clause-closed : goal.returns-in-Ok-clause-closed
 returns-in-Ok-clause-closed g c = λ nodes size.
-    let b = c.into_inner-desk.result in
+    let b = c.into_desk-desk.result in
     let law = c.by_law.ensures in
     let ks = map (λ it. it.rider) c.args.clients.items in
     let room : b.world.room ≡ nodes = (let r = law.room in omega (arith, r, size)) in
