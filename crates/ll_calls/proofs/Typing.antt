@@ -1,5 +1,5 @@
 -- A call's answer, told by its type.
-use Rattle.std.proofs.Common.{◌≡◌, ℕ, subst, sym}
+use Rattle.std.proofs.Common.{◌≡◌, ℕ}
 use Rattle.ll_seq.specs.declared.call.Call.{Call}
 use Rattle.ll_journal.specs.declared.direct.Made.{Made}
 use Rattle.ll_journal.specs.declared.direct.Made.TheVariants as made
@@ -14,9 +14,3 @@ pub gains_fit : (limit : ℕ) (call : Call) (k : Knows) (it : Made) (k' : Knows)
 gains_fit limit call k (made.Replied reply) k' g = g.1
 gains_fit limit call k made.HistoryFull k' g = tt
 gains_fit limit call k made.NoMemory k' g = tt
-
--- by another name
-pub gains_as : (limit : ℕ) (call : Call) (k : Knows) (it that : Made) (k' : Knows) → that ≡ it
-    → Gains limit call k it k'
-    → Gains limit call k that k'
-gains_as limit call k it that k' same g = subst (λ (x : Made). Gains limit call k x k') (sym same) g

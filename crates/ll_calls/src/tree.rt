@@ -24,7 +24,6 @@ use ll_seq::{Call, History, Rules};
 use ll_walk::{Gate, Table};
 use std::alloc::Global;
 use std::sync::Wait;
-use std::thread;
 
 /// A tree shared by threads. It is linearizable: each call gets the reply of a sequential tree that makes all clients'
 /// calls one after the other, each client's in its own order.
@@ -143,7 +142,6 @@ impl<N: Shape, G: Gate<N>> Tree<N, G> {
     }
 
     /// Makes the client's call and returns its result. Not for connect and spawn, which have functions of their own.
-    /// (A call that the table gives back is made again.)
     #[tactic(auto, using(crate::proofs::Typing::gains_fit))]
     pub fn call<R: Wait>(&self, rt: &R, me: &mut Client<N>, call: Call) -> Made
         requires other { is_connect call ≡ false }
@@ -152,14 +150,9 @@ impl<N: Shape, G: Gate<N>> Tree<N, G> {
         ensures gains { Gains N.limit call me.old.rider result me.new.rider }
         ensures fits { FitsMade (success call) result }
     {
-        let mut call = call;
-        for _ in rt.forever() {
-            match self.table.call(rt, me, call) {
-                Ok(made) => return made,
-                Err(back) => call = back,
-            }
-            thread::yield_now();
+        match self.table.call(rt, me, call) {
+            Ok(made) => made,
+            Err(_) => unreachable!(),
         }
-        unreachable!()
     }
 }
