@@ -17,7 +17,10 @@ fn or_not_now(made: Result<Report, Call>) -> Report
 {
     match made {
         Ok(outcome) => outcome,
-        Err(_) => Report::NotNow,
+        Err(call) => {
+            drop(call);
+            Report::NotNow
+        }
     }
 }
 
