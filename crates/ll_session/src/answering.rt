@@ -17,7 +17,6 @@ use std::sync::Wait;
 
 /// A session under way: its tree; a party, whose first clients came before the session, and then its own; who keeps the
 /// history, and how much of it is kept.
-#[derive(Drop)]
 pub struct OpenSession<'a, N: Shape, R: Wait, G: Gate<N>, K: Keeps> {
     pub rt: &'a R,
     pub alloc: Global,
@@ -119,7 +118,15 @@ impl<'a, N: Shape, R: Wait, G: Gate<N>, K: Keeps> OpenSession<'a, N, R, G, K> {
     {
         let mut session = self;
         session.keep();
-        let OpenSession { party, .. } = session;
+        let OpenSession {
+            rt: _,
+            alloc: _,
+            tree: _,
+            keeper: _,
+            party,
+            before: _,
+            kept: _,
+        } = session;
         party
     }
 }

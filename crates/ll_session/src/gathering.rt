@@ -15,15 +15,24 @@ pub fn add_all<N: Shape, H: Wait>(rt: &H, all: &mut Vec<Client<N>>, clients: Vec
         for _ in rt.forever() {}
         unreachable!()
     }
+    clients.destroy_empty();
 }
 
 // Appends the clients of the streams that one worker served.
 fn add_room<N: Shape, H: Wait, R, W>(rt: &H, all: &mut Vec<Client<N>>, room: Vec<Served<N, R, W>>)
     ensures { all.new.items ≡ all.old.items ++ flat_map (λ it. it.clients.items) room.items }
 {
-    for served in room {
-        add_all(rt, all, served.clients);
+    let mut rest = room.into_iter();
+    while let Some(served) = rest.next() {
+        let Served {
+            clients,
+            outcome: _,
+            came: _,
+            went: _,
+        } = served;
+        add_all(rt, all, clients);
     }
+    rest.destroy_empty();
 }
 
 /// Appends the clients of all served streams, worker by worker and stream by stream. The list must have room for as
@@ -36,7 +45,9 @@ pub fn gather<N: Shape, H: Wait, R, W>(
     ensures { all.new.items ≡ all.old.items
         ++ flat_map (λ room. flat_map (λ it. it.clients.items) room.items) rooms.items }
 {
-    for room in rooms {
+    let mut rest = rooms.into_iter();
+    while let Some(room) = rest.next() {
         add_room(rt, all, room);
     }
+    rest.destroy_empty();
 }

@@ -29,7 +29,6 @@ use std::sync::Wait;
 
 /// All clients of one tree, in the order in which they came. They make their calls one after the other. Each meets the
 /// others first, so its entry comes after all of theirs.
-#[derive(Drop)]
 pub struct Party<N: Shape> {
     clients: Vec<Client<N>>,
     limit: u64,
@@ -251,7 +250,11 @@ impl<N: Shape> Party<N> {
     pub fn into_clients(self) -> Vec<Client<N>>
         ensures { map (λ c. c.rider) result.items ≡ self }
     {
-        let Party { clients, .. } = self;
+        let Party {
+            clients,
+            limit: _,
+            last: _,
+        } = self;
         clients
     }
 
@@ -261,7 +264,11 @@ impl<N: Shape> Party<N> {
             → IsClosed N.rules nodes N.limit result.entries self }
         ensures limit { result.limit ≡ N.limit }
     {
-        let Party { clients, .. } = self;
+        let Party {
+            clients,
+            limit: _,
+            last: _,
+        } = self;
         close_all(rt, tree, clients)
     }
 }

@@ -21,7 +21,6 @@ use std::alloc::AllocError;
 use std::sync::Wait;
 
 /// A session under way, and how far it is.
-#[derive(Drop)]
 struct ScoredSession<'a, N: Shape, R: Wait, G: Gate<N>, K: Keeps> {
     session: OpenSession<'a, N, R, G, K>,
     score: Score,

@@ -13,7 +13,6 @@ use std::alloc::Global;
 use std::sync::Wait;
 
 /// A tree that threads share, and all its clients. They are numbered from 1, in the order in which they came.
-#[derive(Drop)]
 pub struct Shared<N: Shape> {
     pub tree: Tree<N, NoGate>,
     pub party: Party<N>,

@@ -22,7 +22,6 @@ pub struct Outcome {
 
 /// What is left of a served stream: the clients that came, and how it ended. Contracts see the stream as it came and as
 /// it went.
-#[derive(Drop)]
 pub struct Served<N: Shape, R, W> {
     pub clients: Vec<Client<N>>,
     pub outcome: Outcome,

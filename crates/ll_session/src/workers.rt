@@ -1,6 +1,6 @@
 //! Threads that serve streams.
 
-ghost use Rattle.std.specs.Prelude.{◌≡◌, ◌<◌, ◌≤◌, IfOk, length, map};
+ghost use Rattle.std.specs.Prelude.{◌≡◌, ◌<◌, ◌≤◌, [], IfOk, length, map};
 ghost use Rattle.std.specs.List.{All};
 ghost use Rattle.ll_session.specs.Rooms.{IsRoomFor};
 ghost use Rattle.ll_session.specs.Visit.{WasServed};
@@ -30,6 +30,17 @@ impl<R: Drop, W: Drop> Takes<R, W> for Receiver<Stream<R, W>> {
     }
 }
 
+// Frees rooms that nothing is in.
+fn free<N: Shape, R, W>(rooms: Vec<Vec<Served<N, R, W>>>)
+    requires { All (λ room. room.items ≡ []) rooms.items }
+{
+    let mut rest = rooms.into_iter();
+    while let Some(room) = rest.next() {
+        room.destroy_empty();
+    }
+    rest.destroy_empty();
+}
+
 // Reserves room for what is left of the streams, for each worker.
 fn rooms<N: Shape, R, W>(
     alloc: Global,
@@ -39,12 +50,14 @@ fn rooms<N: Shape, R, W>(
     ensures workers { IfOk result (λ rooms. length rooms.items ≡ workers) }
     ensures room { IfOk result (λ rooms. All (IsRoomFor most) rooms.items) }
 {
-    let mut rooms = Vec::new(alloc);
+    let mut rooms = Vec::with_capacity(alloc, workers)?;
     for _ in 0..workers {
-        let room: Vec<Served<N, R, W>> = Vec::with_capacity(alloc, most)?;
-        if let Err(refused) = rooms.push(room) {
-            drop(refused);
-            return Err(AllocError);
+        match Vec::with_capacity(alloc, most) {
+            Ok(room) => rooms.push_reserved(room),
+            Err(wanted) => {
+                free(rooms);
+                return Err(wanted);
+            }
         }
     }
     Ok(rooms)
