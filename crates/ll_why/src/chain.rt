@@ -96,8 +96,8 @@ impl PathChains {
         })
     }
 
-    // Returns the chains of a path in the tree.
-    fn of_path(alloc: Global, tree: &Plain, path: &Path) -> Result<PathChains, AllocError>
+    /// Returns the chains of a path in the tree. Errors: memory ran out.
+    pub fn of_path(alloc: Global, tree: &Plain, path: &Path) -> Result<PathChains, AllocError>
         ensures { IfOk result (AreChains tree.now path.now) }
     {
         let itself = Chain::of_names(alloc, tree, path.names())?;

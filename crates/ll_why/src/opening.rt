@@ -1,9 +1,12 @@
 //! Which entry opened the descriptor that decides a call, and what policy says of a truncate there.
 
-ghost use Rattle.std.specs.Prelude.{◌≡◌, ◌≤◌, true, false, Some, IfNone, IfOk, IfSome, option_map, string_bytes};
+ghost use Rattle.std.specs.Prelude.{◌≡◌, ◌≤◌, true, false, Option, Some, IfNone, IfOk, IfSome, length, option_map};
+ghost use Rattle.std.specs.Prelude.{string_bytes};
 ghost use Rattle.std.specs.Prelude.{if◌then◌else◌};
 ghost use Rattle.ll_rights.specs.declared.limits.TheConstants.{TREE_NODES};
 ghost use Rattle.ll_audit.specs.Saved.{opened};
+ghost use Rattle.ll_why.specs.Explained.{IsExplained};
+ghost use Rattle.ll_why.specs.declared.explanation.Explanation.{Explanation};
 ghost use Rattle.ll_why.specs.Opening.{IsOpeningText, TellsOpening, is_opened, is_spawned, kept_descriptor};
 ghost use Rattle.ll_why.specs.Opening.{no_opening, opening_behind, opening_lines, opening_text, openings, opens};
 ghost use Rattle.ll_why.specs.Opening.{target_opened};
@@ -15,6 +18,8 @@ use crate::text::concat;
 use crate::tree::tree_after;
 use crate::{Why, WhyStyle};
 use ll_path::{Target, Word};
+use ll_plain::Plain;
+use ll_rights::Abi;
 use ll_seq::{Call, Entry, Reply};
 use ll_wire::Header;
 use std::alloc::{AllocError, Global};
@@ -193,6 +198,24 @@ fn no_opening(style: WhyStyle) -> &'static str
     }
 }
 
+// Returns the text on an opening, and on this truncate of what it opened, in the tree that it left.
+fn text_in(
+    alloc: Global,
+    style: WhyStyle,
+    level: Abi,
+    tree: &Plain,
+    opening: &Opening<'_>,
+    truncate: &Call,
+) -> Result<String, AllocError>
+    ensures { IfOk result (λ text. (told : Option Explanation)
+        × IsExplained level tree.now opening.now.last.now.client truncate.now told × (string_bytes text
+        ≡ opening_text style (length opening.now.upto.now) opening.now.last.now truncate.now told)) }
+{
+    let told = explain_at(alloc, tree, level, opening.last.client, truncate)?;
+    let number = opening.upto.len();
+    opening_text(alloc, style, number, opening.last, truncate, &told)
+}
+
 // Returns the text on an opening.
 fn text_on(
     alloc: Global,
@@ -206,12 +229,19 @@ fn text_on(
     ensures { IfOk result (λ text. TellsOpening style (opened header.now) opening.now.upto.now
         opening.now.last.now (string_bytes text)) }
 {
-    let tree = tree_after(alloc, header, opening.upto)?;
     let truncate = truncate_of(alloc, opening.target)?;
+    let tree = match tree_after(alloc, header, opening.upto) {
+        Ok(tree) => tree,
+        Err(error) => {
+            drop(truncate);
+            return Err(error);
+        }
+    };
     let level = header.version.rules().abi;
-    let told = explain_at(alloc, &tree, level, opening.last.client, &truncate)?;
-    let number = opening.upto.len();
-    opening_text(alloc, style, number, opening.last, &truncate, &told)
+    let text = text_in(alloc, style, level, &tree, opening, &truncate);
+    drop(tree);
+    drop(truncate);
+    text
 }
 
 /// Returns the text on the opening of the descriptor that decides the entry's call, which follows these entries.

@@ -34,6 +34,9 @@ pub(crate) fn tree_after(
     let mut tree = open(alloc, header)?;
     match follow(&mut tree, entries) {
         Ok(()) => Ok(tree),
-        Err(_) => Err(AllocError),
+        Err(_) => {
+            drop(tree);
+            Err(AllocError)
+        }
     }
 }

@@ -14,17 +14,16 @@ pub returns : goal.returns
 returns c =
     let o = c.args.opening.now in
     let e = o.last.now in
-    let told = c.in_ok-told.told in
     let truncate : c.in_ok-truncate.truncate ≡ Truncate o.target.now 0 = c.in_ok-truncate.ensures in
-    IfOk-weaker c.opening_text.result _ _ (λ text is. record {
+    IfOk-weaker c.text_in-text.result _ _ (λ text told. record {
       target = o.target.now;
-      told = told;
+      told = told.0;
       opens = c.requires.target;
       explained = subst (λ (n : ℕ). IsExplained n (state_after (opened c.args.header.now) o.upto.now) e.client
-          (Truncate o.target.now 0) told) (ap (λ (r : Rules). r.abi) c.rules-level.ensures)
-          (subst (λ (z : State). IsExplained c.rules-level.result.abi z e.client (Truncate o.target.now 0) told)
-          c.in_ok-tree.ensures.tree
-          (subst (λ (call : Call). IsExplained c.rules-level.result.abi c.in_ok-tree.tree e.client call told) truncate
-          c.in_ok-told.ensures));
-      is = is ∙ ap (λ (call : Call). opening_text c.args.style (length o.upto.now) e call told) truncate;
-    }) c.opening_text.ensures
+          (Truncate o.target.now 0) told.0) (ap (λ (r : Rules). r.abi) c.rules-level.ensures)
+          (subst (λ (z : State). IsExplained c.rules-level.result.abi z e.client (Truncate o.target.now 0) told.0)
+          c.in-Ok.ensures.tree
+          (subst (λ (call : Call). IsExplained c.rules-level.result.abi c.in-Ok.tree e.client call told.0) truncate
+          told.1));
+      is = told.2 ∙ ap (λ (call : Call). opening_text c.args.style (length o.upto.now) e call told.0) truncate;
+    }) c.text_in-text.ensures
