@@ -167,10 +167,15 @@ fn names_in(
     ensures same { OnOk result (tree.new ≡ tree.old) }
     ensures names { IfOk result (λ names. names ≡ names_in tree.old (inode_of tree.old path.now)) }
 {
-    let target = Target::read(word_of(alloc, path.as_str())?);
-    match tree.apply(client, &Call::ReadDir(target), client) {
+    let call = Call::ReadDir(Target::read(word_of(alloc, path.as_str())?));
+    let reply = tree.apply(client, &call, client);
+    drop(call);
+    match reply {
         Reply::Listed(names) => Ok(names),
-        _ => Err(AllocError),
+        other => {
+            drop(other);
+            Err(AllocError)
+        }
     }
 }
 

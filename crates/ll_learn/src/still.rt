@@ -10,11 +10,10 @@ ghost use Rattle.ll_learn.specs.Mended.{chain_in};
 
 use crate::draft::Scope;
 use crate::needs::Needs;
-use crate::site::{Sites, copy_of, end_of};
-use ll_path::{Path, Target};
+use crate::site::{Sites, end_of};
+use ll_path::Path;
 use ll_plain::Plain;
 use ll_rights::Kind;
-use ll_seq::Call;
 use ll_why::PathChains;
 use std::alloc::{AllocError, Global};
 
@@ -37,9 +36,9 @@ pub(crate) struct SiteChains {
 fn inodes_of(alloc: Global, tree: &Plain, path: &Path) -> Result<Vec<u64>, AllocError>
     ensures { IfOk result (λ inodes. inodes.items ≡ ancestors tree.now path.now) }
 {
-    let call = Call::Stat(Target::Good(copy_of(alloc, path)?));
-    let chains = PathChains::of_first(alloc, tree, &call)?;
-    Ok(chains.itself)
+    let PathChains { itself, parent } = PathChains::of_path(alloc, tree, path)?;
+    drop(parent);
+    Ok(itself)
 }
 
 impl DirectorySite {

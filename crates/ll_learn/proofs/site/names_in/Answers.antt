@@ -17,10 +17,10 @@ returns-in-Listed c =
     let step = c.in-Listed.ensures.step (λ e. absurd cc) in
     record {
       same = ap (λ p. p.1) step ∙ left c.args.tree.now _ _;
-      names = listing_is c.args.tree.now c.apply.new.self c.args.client c.args.client
-          c.read-target.result c.in-Listed.names step
+      names = listing_is c.args.tree.now c.apply-reply.new.self c.args.client c.args.client
+          c.read.result c.in-Listed.names step
           ∙ ap (λ p. names_in c.args.tree.now (inode_of c.args.tree.now p))
-          (target_is c.as_str.result.now c.read-target.result c.args.path.now
-          (subst (λ (w : List ℕ). IsTarget w c.read-target.result) c.in_ok-word_of.ensures c.read-target.ensures)
+          (target_is c.as_str.result.now c.read.result c.args.path.now
+          (subst (λ (w : List ℕ). IsTarget w c.read.result) c.in_ok-word_of.ensures c.read.ensures)
           c.as_str.ensures.path.0 c.as_str.ensures.path.1);
     }
