@@ -140,8 +140,8 @@ rights_built = with_built rights.top
 abbrev pub check_built : Shape
 check_built = with_built check.top
     (placed files ∷ filled nodes ∷ filled abi ∷ filled (valued (codes "policy")) ∷ filled (valued (codes "profile"))
-    ∷ filled (flag (codes "quiet")) ∷ filled (flag (codes "verbose")) ∷ filled (valued (codes "as")) ∷ help_built
-    ∷ [])
+    ∷ filled (flag (codes "quiet")) ∷ filled (flag (codes "verbose")) ∷ filled (valued (codes "as"))
+    ∷ filled (flag (codes "schedule")) ∷ help_built ∷ [])
 
 abbrev pub serve_built : Shape
 serve_built = with_built serve.top
@@ -443,7 +443,7 @@ check_keeps p a e = found_there (Keeps Good) p check_built.rules a (
             flag_keeps (codes "quiet") refl,
             (
               flag_keeps (codes "verbose") refl,
-              (valued_keeps (codes "as") refl, (help_keeps, tt)),
+              (valued_keeps (codes "as") refl, (flag_keeps (codes "schedule") refl, (help_keeps, tt))),
             ),
           ),
         ),

@@ -140,8 +140,8 @@ together_rights file n scope told layers form =
 
 -- the same of a check
 abbrev pub together_checked : Option (List Text) → Option ℕ → Option ℕ → Option Text → Option Text → Bool → Bool
-    → Option ReportForm → Option CheckOrder
-together_checked paths n level policy profile quiet verbose form =
+    → Option ReportForm → Bool → Option CheckOrder
+together_checked paths n level policy profile quiet verbose form schedule =
     option_and_then (λ p. option_map (λ k. record {
       files = p;
       nodes = k;
@@ -151,6 +151,7 @@ together_checked paths n level policy profile quiet verbose form =
       quiet = quiet;
       verbose = verbose;
       form = form;
+      schedule = schedule;
     }) n) paths
 
 -- the same of a serving
@@ -234,9 +235,9 @@ pub whole_rights : (p : Option Text) (n : Option ℕ) (scope : Option Scope) (to
 whole_rights p n scope told layers form file nodes e f = rw (e, f) refl
 
 pub whole_check : (p : Option (List Text)) (n l : Option ℕ) (q r : Option Text) (s t : Bool) (u : Option ReportForm)
-    (paths : List Text) (nodes : ℕ) → p ≡ Some paths → n ≡ Some nodes
-    → is_some (together_checked p n l q r s t u) ≡ true
-whole_check p n l q r s t u paths nodes e f = rw (e, f) refl
+    (v : Bool) (paths : List Text) (nodes : ℕ) → p ≡ Some paths → n ≡ Some nodes
+    → is_some (together_checked p n l q r s t u v) ≡ true
+whole_check p n l q r s t u v paths nodes e f = rw (e, f) refl
 
 pub whole_serve : (p w c b n m i l : Option ℕ) (log : Bool) (q r s : Option Text)
     (at threads all room nodes most : ℕ)

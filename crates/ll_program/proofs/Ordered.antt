@@ -219,7 +219,10 @@ check_ends = ends_in check_built check_keeps (
           tt,
           (
             flag_default (codes "quiet") refl,
-            (flag_default (codes "verbose") refl, (tt, (tt, tt))),
+            (
+              flag_default (codes "verbose") refl,
+              (tt, (flag_default (codes "schedule") refl, (tt, tt))),
+            ),
           ),
         ),
       ),
@@ -325,7 +328,7 @@ check_wanted rest e =
     let ends = check_ends rest e in
     let paths = texts_of rows ends.0 (codes "FILE") (given (is_given (codes "FILE") rows) _ ends.2) in
     let n = nodes_of rows ends.0 (ends.1.1.0 tt) in
-    whole_check _ _ _ _ _ _ _ _ paths.0 n.0 paths.1 n.1
+    whole_check _ _ _ _ _ _ _ _ _ paths.0 n.0 paths.1 n.1
 
 serve_wanted : (rest : List Text) → level_fault serve_built [] nothing_held rest false [] ≡ []
     → is_some (serve_order (rows_after serve_built.rules [] rest)) ≡ true

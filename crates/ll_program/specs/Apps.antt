@@ -89,7 +89,7 @@ files = record file { range = Some (record { start_inclusive = 1; end_inclusive 
 abbrev pub check : App
 check = fold with_rule (new_app (codes "check"))
     (files ∷ nodes ∷ abi ∷ valued (codes "policy") ∷ valued (codes "profile") ∷ flag (codes "quiet")
-    ∷ flag (codes "verbose") ∷ valued (codes "as") ∷ [])
+    ∷ flag (codes "verbose") ∷ valued (codes "as") ∷ flag (codes "schedule") ∷ [])
 
 -- from 1 to 65,535
 abbrev pub ports : ValueParser

@@ -68,6 +68,7 @@ pub record CheckOrder : Type 0 where
   pub quiet : Bool
   pub verbose : Bool
   pub form : Option ReportForm
+  pub schedule : Bool
 
 pub record ServeOrder : Type 0 where
   pub port : ℕ
@@ -172,6 +173,7 @@ checked_in o =
       quiet = o.quiet;
       verbose = o.verbose;
       form = o.form;
+      schedule = o.schedule;
     }
 
 abbrev pub served_in : ServeOptions → ServeOrder
@@ -349,6 +351,7 @@ check_order rows =
       quiet = is_set (codes "quiet") rows;
       verbose = is_set (codes "verbose") rows;
       form = report_form_by (first_of (codes "as") rows);
+      schedule = is_set (codes "schedule") rows;
     })
     (number_of (codes "nodes") node_numbers rows))
     (all_of (codes "FILE") rows)
@@ -473,8 +476,10 @@ fits_report None quiet verbose = false
 fits_report (Some reports.Text) quiet verbose = not (quiet && verbose)
 fits_report (Some form) quiet verbose = not (quiet || verbose)
 
+-- schedules have no policy, and so no profile
 abbrev pub fits_check : CheckOrder → Bool
 fits_check o = go_together o.level o.policy o.profile && fits_report o.form o.quiet o.verbose
+    && not (o.schedule && is_some o.policy)
 
 abbrev pub fits_serve : ServeOrder → Bool
 fits_serve o = go_together o.level o.policy o.profile && not (names_input o.save o.policy)

@@ -297,6 +297,11 @@ fn check_command<'a>(alloc: Global) -> Result<Command<'a>, AllocError>
             "FORM",
             "Print all tests for another program: tap, junit or json",
         ),
+        flag(
+            alloc,
+            "schedule",
+            "The files are schedules: one step and its expected outcome per line (not with a policy)",
+        ),
     ]?;
     command_of(
         alloc,

@@ -165,7 +165,8 @@ impl<'a> ScheduleOptions<'a> {
 }
 
 /// The options of `check`: its test files (`-` is standard input), each run in a tree of its own; the limit of live
-/// nodes; the ABI level, or the policy file and the first client's profile.
+/// nodes; the ABI level, or the policy file and the first client's profile; and whether the files are schedules, whose
+/// clients get their layers by their own calls.
 #[derive(Drop)]
 pub struct CheckOptions<'a> {
     pub files: Vec<&'a str>,
@@ -177,6 +178,7 @@ pub struct CheckOptions<'a> {
     pub verbose: bool,
     /// The form of the report; None if its word names none.
     pub form: Option<ReportForm>,
+    pub schedule: bool,
     ghost some: { 1 ≤ nodes },
     ghost most: { nodes ≤ TREE_NODES },
 }
@@ -217,6 +219,7 @@ impl<'a> CheckOptions<'a> {
         let quiet = CheckOptions::is_set(check, "quiet");
         let verbose = CheckOptions::is_set(check, "verbose");
         let form = ReportForm::by_word(check.get_str("as"));
+        let schedule = CheckOptions::is_set(check, "schedule");
         Ok(Some(CheckOptions {
             files,
             nodes: nodes as usize,
@@ -226,6 +229,7 @@ impl<'a> CheckOptions<'a> {
             quiet,
             verbose,
             form,
+            schedule,
         }))
     }
 
@@ -241,7 +245,7 @@ impl<'a> CheckOptions<'a> {
     }
 
     /// Reports whether the options fit together: no level with a policy, a profile with a policy, a known form, and not
-    /// both quiet and verbose, which only a text may be.
+    /// both quiet and verbose, which only a text may be; and no policy for schedules.
     pub fn fit(&self) -> bool
         ensures { result ≡ fits_check (checked_in self.now) }
     {
@@ -250,7 +254,7 @@ impl<'a> CheckOptions<'a> {
         } else {
             self.profile.is_none()
         };
-        is_set_up && self.report_fits()
+        is_set_up && self.report_fits() && !(self.schedule && self.policy.is_some())
     }
 }
 

@@ -15,7 +15,8 @@ returns-clause-app c =
     (ap₂ ◌∷◌ c.profile_option.ensures.rule
     (ap₂ ◌∷◌ c.flag.ensures.rule
     (ap₂ ◌∷◌ c.flag-2.ensures.rule
-    (ap₂ ◌∷◌ c.valued.ensures.rule refl))))))))
+    (ap₂ ◌∷◌ c.valued.ensures.rule
+    (ap₂ ◌∷◌ c.flag-3.ensures.rule refl)))))))))
     c.command_of.ensures.app
 
 pub command_of-requires : goal.command_of-requires
@@ -32,7 +33,10 @@ command_of-requires c =
               c.profile_option.ensures.local,
               (
                 c.flag.ensures.local,
-                (c.flag-2.ensures.local, (c.valued.ensures.local, tt)),
+                (
+                  c.flag-2.ensures.local,
+                  (c.valued.ensures.local, (c.flag-3.ensures.local, tt)),
+                ),
               ),
             ),
           ),
