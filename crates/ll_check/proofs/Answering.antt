@@ -1,20 +1,19 @@
 -- Each tree's answer to a command is one that it may have.
 use Rattle.std.specs.Prelude.{◌≡◌, ◌⊎◌, ℕ, Bool, true, false, not, ◌&&◌, ◌||◌, ◌==◌, List, [], ◌∷◌, ◌++◌, Option}
 use Rattle.std.specs.Prelude.{None, Some}
-use Rattle.std.specs.Prelude.{map, refl, cond, option_map, option_and_then, option_to_list, is_some, is_none}
-use Rattle.std.specs.List.{AllByRecursion, enumerate_from, flat_map, list_any}
-use Rattle.std.proofs.Common.{ap, inl, inr, eq-eqb, eqb-true, subst, sym, ◌∙◌}
+use Rattle.std.specs.Prelude.{map, refl, option_map, option_and_then, option_to_list, is_some, is_none}
+use Rattle.std.specs.List.{AllByRecursion, enumerate_from, flat_map}
+use Rattle.std.proofs.Common.{inl, inr, eq-eqb, eqb-true, subst, sym}
 use Rattle.ll_rights.specs.declared.errno.Errno.{Errno}
 use Rattle.ll_rights.specs.declared.errno.Errno.TheVariants.{ENOENT, EEXIST}
 use Rattle.ll_rights.specs.declared.kind.Kind.{Kind}
 use Rattle.ll_rights.specs.declared.kind.Kind.TheVariants as kind
-use Rattle.ll_rights.specs.Kind.{make_right, remove_right, relevant}
+use Rattle.ll_rights.specs.Kind.{make_right, remove_right}
 use Rattle.ll_rights.specs.Right as right_of
 use Rattle.ll_rights.specs.Right.{refer, all_rights}
 use Rattle.ll_rights.specs.Access.{holds}
 use Rattle.ll_rights.specs.Map.{get}
 use Rattle.ll_path.specs.Path.{Path, parent}
-use Rattle.ll_rules.specs.Layer.{Layer}
 use Rattle.ll_rights.specs.Errno.{refuse}
 use Rattle.ll_decide.specs.declared.denial.Cause.{Cause}
 use Rattle.ll_decide.specs.declared.denial.Cause.TheVariants.{EACCES, EXDEV}
@@ -25,7 +24,6 @@ use Rattle.ll_decide.specs.Verdict.{Ask, Move, all_denials, denials, gains, is_a
 use Rattle.ll_decide.specs.Verdict.{when}
 use Rattle.ll_seq.specs.declared.client.ClientRecord.{ClientRecord}
 use Rattle.ll_seq.specs.declared.client.Descriptor.{Descriptor}
-use Rattle.ll_seq.specs.declared.call.AccessMode.{AccessMode}
 use Rattle.ll_seq.specs.declared.call.Call.{Call}
 use Rattle.ll_seq.specs.declared.call.Call.TheVariants.{Make, Open, Read, Write, Ftruncate, Close, Truncate, ReadDir}
 use Rattle.ll_seq.specs.declared.call.Call.TheVariants.{Stat, Exec, Unlink, Rmdir, Rename, RenameNoreplace, Exchange}
@@ -48,7 +46,7 @@ use Rattle.ll_seq.specs.Call.{creates, first_path, is_exclusive, reads, second_p
 use Rattle.ll_seq.specs.Effects.{effect}
 use Rattle.ll_seq.specs.Stages.{number_refusals, relation_refusals, stages, text_refusals, walk_refusals}
 use Rattle.ll_seq.specs.State.{State, new_client}
-use Rattle.ll_seq.specs.Step.{client_of, first_or, refusals, step}
+use Rattle.ll_seq.specs.Step.{client_of, first_or, step}
 use Rattle.ll_seq.specs.Tree.{kind_at, named}
 use Rattle.ll_check.specs.Possible.{AnswersFit, CanCome, MayAnswer, MayBeDenied, MayBegin, NeverComes}
 use Rattle.ll_check.specs.Possible.{has_two_paths, is_asked, is_asked_old, is_deniable, may_deny, may_deny_right}

@@ -15,7 +15,6 @@ use Rattle.ll_seq.specs.declared.reply.Entry.{Entry}
 use Rattle.ll_seq.specs.declared.reply.Reply.{Reply}
 use Rattle.ll_seq.specs.History.{is_connect}
 use Rattle.ll_learn.specs.declared.profile.LearnedProfile.{LearnedProfile}
-use Rattle.ll_learn.specs.declared.profile.LearnedRule.{LearnedRule}
 use Rattle.ll_learn.specs.Profile.{call_of, calls_of}
 use Rattle.ll_session.specs.CallsRun.{Makes}
 use Rattle.ll_rights.specs.declared.limits.TheConstants.{HISTORY_ENTRIES}

@@ -1,7 +1,7 @@
 -- What stands behind a front, or in front of a back.
-use Rattle.std.proofs.Common.{◌≡◌, ℕ, Bool, true, false, cond, eqb, ◌&&◌, List, [], ◌∷◌, length, take, drop, Option}
-use Rattle.std.proofs.Common.{Some, None, refl, true≢false, sym}
-use Rattle.std.proofs.Common.{option_map, ap, ◌∙◌, Bor}
+use Rattle.std.proofs.Common.{◌≡◌, ℕ, true, false, List, length, take, drop, Option}
+use Rattle.std.proofs.Common.{Some, None, true≢false, sym}
+use Rattle.std.proofs.Common.{ap, ◌∙◌, Bor}
 use Rattle.std.proofs.Common.{ap₂, ◌++◌, ◌+◌, ◌-◌, arith}
 use Rattle.std.specs.Option.{MatchOption, IfSome, IfNone}
 use Rattle.std.proofs.lemmas.List.{length-append, take-append-drop}

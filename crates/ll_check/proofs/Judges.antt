@@ -19,7 +19,7 @@ use Rattle.ll_check.specs.declared.judging.Style.{Style}
 use Rattle.ll_check.specs.declared.judging.Tally.{Tally}
 use Rattle.ll_check.specs.declared.reading.Test.{Test}
 use Rattle.ll_check.specs.Replied.{HasReplies}
-use Rattle.ll_check.specs.Report.{AreJudged, IsJudged, Judged, Judges, Tells, failed, judged, passed, shown}
+use Rattle.ll_check.specs.Report.{IsJudged, Judged, Judges, Tells, failed, judged, shown}
 use Rattle.ll_check.specs.Wanted.{Satisfies}
 
 all_more : (verdicts : List Judged) (it : Judged) → AllByRecursion IsJudged verdicts → IsJudged it

@@ -4,6 +4,11 @@ pub mod Files
 pub mod Fronts
 pub mod Joins
 pub mod Judges
+pub mod LastParts
+pub mod OutcomeTexts
+pub mod PolicyTexts
+pub mod RunRaces
+pub mod StepLines
 pub mod Taught
 pub mod Tests
 pub mod Told

@@ -1,9 +1,9 @@
 -- What lessons teach, and how learning ends.
 use Rattle.std.proofs.Common.{◌≡◌, ℕ, List, map, Option, Some, None, Result, Ok, Err, refl, sym, subst, inl, inr, ◌⊎◌}
-use Rattle.std.proofs.Common.{◌∙◌, Bool, false, true}
-use Rattle.std.specs.Prelude.{IfErr, IfNone, IfOk, IfSome}
+use Rattle.std.proofs.Common.{◌∙◌, Bool, false, true, ap}
+use Rattle.std.specs.Prelude.{◌||◌, [], ◌∷◌, IfErr, IfNone, IfOk, IfSome}
 use Rattle.std.specs.Io.KnownBytes.{Appends}
-use Rattle.std.specs.List.{list_all}
+use Rattle.std.specs.List.{list_all, list_any}
 use Rattle.ll_seq.specs.declared.reply.Entry.{Entry}
 use Rattle.ll_audit.specs.Saved.{opened}
 use Rattle.ll_learn.specs.declared.fault.Unlearned.{Unlearned}
@@ -23,10 +23,10 @@ use Rattle.ll_check.specs.declared.checks.NamedText.{NamedText}
 use Rattle.ll_check.specs.declared.reading.ReadFile.{ReadFile}
 use Rattle.ll_check.specs.declared.reading.CheckFault.{CheckFault}
 use Rattle.ll_check.specs.declared.reading.CheckFault.TheVariants as faults
-use Rattle.ll_check.specs.Checks.{Tests, has_test, tests_of}
+use Rattle.ll_check.specs.Checks.{Tests, has_own, has_test, tests_of}
 use Rattle.ll_check.specs.Files.{AreTestsIn, HasBadLine, Source, source_of}
-use Rattle.ll_check.specs.Lessons.{Course, EndsLessons, FailsToLearn, HasWrongWord, IsHindered, IsProfile, IsTaughtBy}
-use Rattle.ll_check.specs.Lessons.{TeachNothing, is_of_lessons, lessons_of}
+use Rattle.ll_check.specs.Lessons.{AreLessonsIn, Course, EndsLessons, FailsToLearn, HasWrongWord, IsHindered}
+use Rattle.ll_check.specs.Lessons.{IsProfile, IsTaughtBy, TeachNothing, is_of_lessons, lessons_of}
 
 -- ---- what is learned
 
@@ -70,6 +70,20 @@ module _ (order : LearnOrder) (policy : List ℕ) (lessons : List Tests) (c : Co
   nothing_so (Ok (Some profile)) is = tt
   nothing_so (Ok None) is = inr (c, is.0, is.1, is_unlearned is.0 is.2)
 
+-- ---- policies that sections name
+
+pub own_any : (files : List ReadFile)
+    → list_any (λ file. has_own (tests_of file)) files ≡ list_any has_own (map tests_of files)
+own_any [] = refl
+own_any (file ∷ files) = ap (λ b. has_own (tests_of file) || b) (own_any files)
+
+pub are_lessons : (texts : List NamedText) (files all : List ReadFile) (own : Bool)
+    → AreTestsIn (map source_of texts) (map tests_of files) → all ≡ files
+    → own ≡ list_any has_own (map tests_of all) → own ≡ false
+    → AreLessonsIn (map source_of texts) (map tests_of files)
+are_lessons texts files all own read same so none =
+    (read, ap (λ (x : List ReadFile). list_any has_own (map tests_of x)) (sym same) ∙ sym so ∙ none)
+
 -- ---- how it ends
 
 module _ (order : LearnOrder) (policy : List ℕ) (out : Option (List ℕ)) where
@@ -85,11 +99,24 @@ module _ (order : LearnOrder) (policy : List ℕ) (out : Option (List ℕ)) wher
       → IfErr r (λ failure. failure ≡ NoMemory) → EndsLessons order policy (map source_of texts) out out r
   bad_told texts fault (Ok end) bad told wanting =
       subst (λ (x : Checked). EndsLessons order policy (map source_of texts) out out (Ok x)) (sym told.0)
-      (bad told.1 told.2, refl)
+      (inl (bad told.1 told.2), refl)
   bad_told texts fault (Err failure) bad told wanting = inl (inr (inr wanting), refl)
 
+  pub named_own : (texts : List NamedText) (files all : List ReadFile) (own : Bool)
+      → AreTestsIn (map source_of texts) (map tests_of files) → all ≡ files
+      → own ≡ list_any has_own (map tests_of all) → own ≡ true
+      → EndsLessons order policy (map source_of texts) out out (Ok BadLine)
+  named_own texts files all own read same so some = (
+    inr (
+      map tests_of files,
+      read,
+      ap (λ (x : List ReadFile). list_any has_own (map tests_of x)) (sym same) ∙ sym so ∙ some,
+    ),
+    refl,
+  )
+
   module _ (texts : List NamedText) (files all : List ReadFile)
-      (read : AreTestsIn (map source_of texts) (map tests_of files)) (same : all ≡ files) where
+      (read : AreLessonsIn (map source_of texts) (map tests_of files)) (same : all ≡ files) where
     pub not_taught : (failure : Failure) → FailsToLearn order policy (map lessons_of (map tests_of all)) failure
         → EndsLessons order policy (map source_of texts) out out (Err failure)
     not_taught failure fails = inl (

@@ -1,6 +1,6 @@
 -- Where a test's command ends, and the tests of lines.
-use Rattle.std.proofs.Common.{◌≡◌, ◌∙◌, inl, inr, ℕ, ◌+◌, ◌<◌, ◌≤◌, List, [], ◌∷◌, ◌++◌, length, take, drop, append-nil}
-use Rattle.std.proofs.Common.{append_assoc, refl, sym, ap, subst, codes, arith, Bool, true, false, eqb, map}
+use Rattle.std.proofs.Common.{◌≡◌, ◌∙◌, inl, inr, ℕ, ◌+◌, ◌<◌, ◌≤◌, List, [], ◌∷◌, ◌++◌, length, take, drop}
+use Rattle.std.proofs.Common.{refl, sym, ap, subst, codes, arith, Bool, true, false, eqb, map}
 use Rattle.std.specs.Prelude.{◌||◌}
 use Rattle.std.specs.List.{list_any}
 use Rattle.std.proofs.lemmas.Bool.{eqb-true, eqb-false}
@@ -11,11 +11,11 @@ use Rattle.ll_seq.specs.declared.call.Call.{Call}
 use Rattle.ll_session.specs.declared.client_call.ClientCall.{ClientCall}
 use Rattle.ll_wire.specs.Grammar.{SpellsCommand, call_tokens, client_tokens, line_of}
 use Rattle.ll_wire.specs.declared.read.TheConstants.{LINE_LIMIT}
-use Rattle.ll_check.specs.Checks.{AreRead, Reading, SaysNothing, SpellsAt, SpellsCall, SpellsSection}
-use Rattle.ll_check.specs.Checks.{SpellsTest}
+use Rattle.ll_check.specs.Checks.{AreRead, Own, Reading, SaysNothing, SpellsAt, SpellsCall, SpellsPolicy}
+use Rattle.ll_check.specs.Checks.{SpellsSection, SpellsTest}
 use Rattle.ll_program.specs.Comments.{body_of, is_silent}
-use Rattle.ll_check.specs.Checks.{TakesLine, has_section, is_name, is_section, tests_of, with_section}
-use Rattle.ll_check.specs.Checks.{with_test}
+use Rattle.ll_check.specs.Checks.{TakesLine, has_section, is_at_head, is_name, is_section, placed, tests_of, with_own}
+use Rattle.ll_check.specs.Checks.{with_section, with_test}
 use Rattle.ll_check.specs.declared.reading.ReadFile.{ReadFile}
 use Rattle.ll_check.specs.Possible.{CanCome}
 use Rattle.ll_check.specs.Wanted.{SpellsWanted}
@@ -117,17 +117,28 @@ pub section_taken : (line body name : List ℕ) (number : ℕ) (before after : R
     → SpellsSection body name → has_section before name ≡ false → after ≡ with_section before name
     → TakesLine line number before after
 section_taken line body name number before after e is new same =
-    inr (inr (name, subst (λ (b : List ℕ). SpellsSection b name) e is, new, same))
+    inr (inr (inl (name, subst (λ (b : List ℕ). SpellsSection b name) e is, new, same)))
+
+pub own_taken : (line body file : List ℕ) (number : ℕ) (before after : Reading) (own : Own) → body ≡ body_of line
+    → SpellsPolicy body file own.profile → own.line ≡ number → own.file ≡ placed before.last.name file
+    → is_at_head before.last ≡ true → after ≡ with_own before own → TakesLine line number before after
+own_taken line body file number before after own e is there path head same = inr (inr (inr (
+  own,
+  (file, subst (λ (b : List ℕ). SpellsPolicy b file own.profile) e is, there, path),
+  head,
+  same,
+)))
 
 pub says_nothing : (line body : List ℕ) (r : Reading) → body ≡ body_of line
     → false ≡ is_silent body
     → ((test : Test) → SpellsTest body test → ⊥) → ((name : List ℕ) → SpellsSection body name → ⊥)
-    → SaysNothing line r
-says_nothing line body r e silent none other = (
+    → ((file profile : List ℕ) → SpellsPolicy body file profile → ⊥) → SaysNothing line r
+says_nothing line body r e silent none other third = (
   sym (silent ∙ ap is_silent e),
   inl (
     λ test is. none test (subst (λ (b : List ℕ). SpellsTest b test) (sym e) is),
     λ name is. other name (subst (λ (b : List ℕ). SpellsSection b name) (sym e) is),
+    λ file profile is. third file profile (subst (λ (b : List ℕ). SpellsPolicy b file profile) (sym e) is),
   ),
 )
 
@@ -144,7 +155,15 @@ pub says_twice : (line body name : List ℕ) (r : Reading) → body ≡ body_of 
     → SpellsSection body name → has_section r name ≡ true → SaysNothing line r
 says_twice line body name r e silent is twice = (
   sym (silent ∙ ap is_silent e),
-  inr (inr (name, subst (λ (b : List ℕ). SpellsSection b name) e is, twice)),
+  inr (inr (inl (name, subst (λ (b : List ℕ). SpellsSection b name) e is, twice))),
+)
+
+pub says_late : (line body file profile : List ℕ) (r : Reading) → body ≡ body_of line
+    → false ≡ is_silent body
+    → SpellsPolicy body file profile → is_at_head r.last ≡ false → SaysNothing line r
+says_late line body file profile r e silent is late = (
+  sym (silent ∙ ap is_silent e),
+  inr (inr (inr (file, profile, subst (λ (b : List ℕ). SpellsPolicy b file profile) e is, late))),
 )
 
 -- ---- sections

@@ -11,14 +11,14 @@ use Rattle.ll_decide.specs.Denial.{place_text}
 use Rattle.ll_decide.specs.declared.denial.Place.{Place}
 use Rattle.ll_decide.specs.declared.denial.Place.TheVariants.{At, Old, New}
 use Rattle.ll_seq.specs.declared.reply.Reply.{Reply}
-use Rattle.ll_wire.specs.FirstWords.{SpellsFirst, first_told, first_tokens}
+use Rattle.ll_wire.specs.FirstWords.{SpellsFirst, first_tokens}
 use Rattle.ll_wire.specs.Grammar.{IsReply, SpellsReply, reply_tokens}
 use Rattle.ll_wire.specs.Reads.{Finds}
 use Rattle.ll_wire.specs.declared.first_words.FirstWords.{FirstWords}
 use Rattle.ll_wire.proofs.Lines.{same_front}
 use Rattle.ll_wire.proofs.OneReply.{right_token}
 use Rattle.ll_wire.proofs.Tokens.{body_is_ascii}
-use Rattle.ll_check.specs.Wanted.{SpellsVerdict, SpellsWanted, is_of_layers}
+use Rattle.ll_check.specs.Wanted.{SpellsVerdict, SpellsWanted}
 use Rattle.ll_check.specs.declared.wanted.Wanted.{Wanted}
 use Rattle.ll_check.specs.declared.wanted.Wanted.TheVariants.{Success, Allowed, Denied, DeniedRight, DeniedAt, Whole}
 use Rattle.ll_check.specs.declared.wanted.Wanted.TheVariants.{First}

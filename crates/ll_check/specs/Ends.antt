@@ -1,26 +1,45 @@
 -- How the program's check ends. own
-use Rattle.std.specs.Prelude.{⊤, ◌≡◌, ℕ, List, Option, Result, Ok, Err, IfSome}
-use Rattle.std.specs.List.{AllZip}
+use Rattle.std.specs.Prelude.{⊤, ◌≡◌, ◌⊎◌, ℕ, Bool, true, false, List, Option, Some, Result, Ok, Err, IfSome}
+use Rattle.std.specs.List.{All, AllZip}
 use Rattle.ll_program.specs.Options.{CheckOrder}
 use Rattle.ll_program.specs.declared.conclusion.Conclusion.{Conclusion}
 use Rattle.ll_program.specs.declared.conclusion.Conclusion.TheVariants.{Differs, Done, Judged, Stopped}
 use Rattle.ll_program.specs.declared.conclusion.Conclusion.TheVariants as conclusion
 use Rattle.ll_program.specs.declared.checked.Checked.{Checked}
 use Rattle.ll_program.specs.declared.failure.Failure.{Failure}
-use Rattle.ll_program.specs.declared.failure.Failure.TheVariants.{File}
+use Rattle.ll_program.specs.declared.failure.Failure.TheVariants.{File, NoMemory, Output}
 use Rattle.ll_program.specs.Sources.{named, text_in}
 use Rattle.ll_check.specs.Files.{HasBegun, IsCheck, MayFail, Source}
+use Rattle.ll_check.specs.Races.{IsRaceCheck}
 use Rattle.ll_wire.specs.Transcript.{Writes}
 
 -- the file with this name, with its text if that is known
 abbrev pub IsSource : (texts : Option (List ℕ) → Option (List ℕ)) → List ℕ → Source → Type 0
 IsSource texts name source = (source.name ≡ name) × IfSome (texts (named name)) (λ told. source.text ≡ told)
 
--- a check of the files that the words name has this result and text, if the policy's file has that one
+-- the policy at this path has this text, if that is known
+abbrev pub IsPolicySource : (texts : Option (List ℕ) → Option (List ℕ)) → Source → Type 0
+IsPolicySource texts policy = IfSome (texts (Some policy.name)) (λ told. policy.text ≡ told)
+
+-- a check of these files, by these policies of sections, or of these schedules
+abbrev pub IsCheckBy : (schedule : Bool) → CheckOrder → (policy : List ℕ) → (policies sources : List Source) → Checked
+    → (written : List ℕ) → Type 0
+IsCheckBy false order policy policies sources end written = IsCheck order policy policies sources end written
+IsCheckBy true order policy policies sources end written = IsRaceCheck order sources end written
+
+-- why files, or schedules, aren't checked to the end
+abbrev pub MayFailBy : (schedule : Bool) → CheckOrder → (policy : List ℕ) → (policies sources : List Source) → Failure
+    → Type 0
+MayFailBy false order policy policies sources failure = MayFail order policy policies sources failure
+MayFailBy true order policy policies sources failure = (failure ≡ Output) ⊎ (failure ≡ NoMemory)
+
+-- a check of the files that the words name, and of policies that their sections name, has this result and text, if the
+-- policy's file has that one
 abbrev pub IsCheckOf : (texts : Option (List ℕ) → Option (List ℕ)) → CheckOrder → (policy : List ℕ) → Checked
     → (written : List ℕ) → Type 0
 IsCheckOf texts order policy end written =
-    (sources : List Source) × AllZip (IsSource texts) order.files sources × IsCheck order policy sources end written
+    (policies sources : List Source) × All (IsPolicySource texts) policies × AllZip (IsSource texts) order.files sources
+    × IsCheckBy order.schedule order policy policies sources end written
 
 -- the result of such a check
 abbrev pub IsCheckedUnder : (texts : Option (List ℕ) → Option (List ℕ)) → CheckOrder → (policy : List ℕ) → Checked
@@ -35,7 +54,9 @@ IsPolicyText texts policy text = IfSome (text_in texts policy) (λ told. text �
 abbrev pub FailsCheck : (texts : Option (List ℕ) → Option (List ℕ)) → CheckOrder → Failure → Type 0
 FailsCheck texts order File = ⊤
 FailsCheck texts order failure =
-    (policy : List ℕ) × IsPolicyText texts order.policy policy × MayFail order policy failure
+    (policy : List ℕ) × (policies sources : List Source) × IsPolicyText texts order.policy policy
+    × All (IsPolicySource texts) policies × AllZip (IsSource texts) order.files sources
+    × MayFailBy order.schedule order policy policies sources failure
 
 -- what it then has written
 abbrev pub BeginsCheck : (texts : Option (List ℕ) → Option (List ℕ)) → CheckOrder → (out out' : Option (List ℕ))

@@ -40,7 +40,7 @@ use Rattle.ll_program.specs.declared.failure.Failure.{Failure}
 use Rattle.ll_program.specs.declared.failure.Failure.TheVariants.{CommandLine, File, NoMemory, Opening, Output}
 use Rattle.ll_check.specs.declared.lessons.FileLessons.{FileLessons}
 use Rattle.ll_check.specs.declared.reading.Test.{Test}
-use Rattle.ll_check.specs.Checks.{Tests, has_test}
+use Rattle.ll_check.specs.Checks.{Tests, has_own, has_test}
 use Rattle.ll_check.specs.Files.{AreTestsIn, HasBadLine, Source, room_for}
 use Rattle.ll_check.specs.Report.{AreJudged, Judged, heading}
 use Rattle.ll_check.specs.Wanted.{Satisfies, is_allowed, wants_denial}
@@ -79,6 +79,7 @@ lessons_of file =
     record {
       name = file.name;
       section = file.section;
+      own = None;
       tests = filter (λ test. not (wants_denial test.wanted)) file.tests;
     }
 
@@ -257,25 +258,34 @@ abbrev pub FailsToLearn : LearnOrder → (policy : List ℕ) → (lessons : List
 FailsToLearn order policy lessons failure =
     ((failure ≡ CommandLine) × IsOutside order policy lessons) ⊎ FailsToMake order policy failure
 
+-- these are the sections of the files, none of which names a policy
+abbrev pub AreLessonsIn : List Source → List Tests → Type 0
+AreLessonsIn sources files = AreTestsIn sources files × (list_any has_own files ≡ false)
+
+-- a line says nothing, or names a policy, which `learn` takes from the words alone
+abbrev pub HasWrongLine : List Source → Type 0
+HasWrongLine sources =
+    HasBadLine sources ⊎ ((files : List Tests) × AreTestsIn sources files × (list_any has_own files ≡ true))
+
 -- why nothing is learned from these files: that, or a word is wrong
 abbrev pub IsReason : LearnOrder → (policy : List ℕ) → List Source → Failure → Type 0
 IsReason order policy sources failure =
     ((failure ≡ CommandLine) × HasWrongWord order)
-    ⊎ ((files : List Tests) × AreTestsIn sources files
+    ⊎ ((files : List Tests) × AreLessonsIn sources files
     × FailsToLearn order policy (map lessons_of files) failure)
     ⊎ (failure ≡ NoMemory)
 
 -- A profile is written. Otherwise nothing is, and this says why; or a prefix of it if the output fails
 abbrev pub EndsLessons : LearnOrder → (policy : List ℕ) → List Source → (out out' : Option (List ℕ))
     → Result Checked Failure → Type 0
-EndsLessons order policy sources out out' (Ok Passed) = (files : List Tests) × AreTestsIn sources files
+EndsLessons order policy sources out out' (Ok Passed) = (files : List Tests) × AreLessonsIn sources files
     × Writes out out' (IsProfile order policy files)
 EndsLessons order policy sources out out' (Ok Failed) =
-    (files : List Tests) × AreTestsIn sources files × IsHindered order policy files × (out' ≡ out)
-EndsLessons order policy sources out out' (Ok BadLine) = HasBadLine sources × (out' ≡ out)
+    (files : List Tests) × AreLessonsIn sources files × IsHindered order policy files × (out' ≡ out)
+EndsLessons order policy sources out out' (Ok BadLine) = HasWrongLine sources × (out' ≡ out)
 EndsLessons order policy sources out out' (Err failure) =
     (IsReason order policy sources failure × (out' ≡ out))
-    ⊎ ((failure ≡ Output) × (files : List Tests) × AreTestsIn sources files
+    ⊎ ((failure ≡ Output) × (files : List Tests) × AreLessonsIn sources files
     × (text : List ℕ) × IsProfile order policy files text × AppendsFront out out' text)
 
 -- ---- Parts, which no public contract cites
@@ -283,7 +293,12 @@ EndsLessons order policy sources out out' (Err failure) =
 -- a file's lessons, as they are picked
 abbrev pub picked : FileLessons → Tests
 picked file =
-    record { name = file.name.now; section = file.section.now; tests = map (λ t. t.now) file.tests.items }
+    record {
+      name = file.name.now;
+      section = file.section.now;
+      own = None;
+      tests = map (λ t. t.now) file.tests.items;
+    }
 
 -- a file is tried, and this says whether all its tests pass
 abbrev pub HasTrial : LearnOrder → (policy : List ℕ) → LearnedProfile → Tests → (passes : Bool) → Type 0

@@ -2,8 +2,11 @@ pub mod Checks
 pub mod Ends
 pub mod Files
 pub mod Lessons
+pub mod Outcomes
 pub mod Possible
+pub mod Races
 pub mod Replied
 pub mod Report
+pub mod Steps
 pub mod Styles
 pub mod Wanted

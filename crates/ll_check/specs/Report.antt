@@ -1,5 +1,5 @@
 -- What the check of a section writes, and how its tests are judged. own
-use Rattle.std.specs.Prelude.{◌≡◌, ◌↔◌, IsTrue, ℕ, Bool, true, false, not, List, [], ◌∷◌, ◌++◌, codes, decimal, map}
+use Rattle.std.specs.Prelude.{◌≡◌, ◌↔◌, IsTrue, ℕ, Bool, not, List, [], ◌++◌, codes, decimal, map}
 use Rattle.std.specs.Prelude.{◌==◌, if◌then◌else◌, length}
 use Rattle.std.specs.List.{AllByRecursion, count_by, flat_map}
 use Rattle.ll_seq.specs.declared.reply.Entry.{Entry}

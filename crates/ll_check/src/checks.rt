@@ -9,12 +9,14 @@ ghost use Rattle.ll_program.specs.Options.{checked_in};
 ghost use Rattle.ll_program.specs.declared.checked.Checked as checked;
 ghost use Rattle.ll_check.specs.Checks.{has_test, tests_of};
 ghost use Rattle.ll_check.specs.Files.{AreChecked, AreTestsIn, Concludes, HasBadLine, IsCheck, IsFileChecked, IsSetFor};
-ghost use Rattle.ll_check.specs.Files.{HasBegun, MayFail};
+ghost use Rattle.ll_check.specs.Files.{HasBegun, IsStopped, MayFail, MayStop};
 ghost use Rattle.ll_check.specs.Files.{end_of, room_for, source_of, style_of};
 ghost use Rattle.ll_check.specs.Styles.{head, tail};
 
+use crate::policies::{tell_own, tree_for};
 use crate::reading::{ReadFile, read_sections};
 use crate::runner::Runner;
+use crate::trees::in_memory;
 use crate::{CheckFault, LinesOf, Notes, Reporter, Style, Tally, check_file, explain, tell_denied};
 use ll_program::{CheckOptions, Checked, Failure, ReportForm, header_of, setup_of, write_bytes};
 use ll_rights::limits::HISTORY_ENTRIES;
@@ -22,26 +24,35 @@ use ll_session::Setup;
 use std::alloc::{AllocError, Global};
 use std::io::Write;
 
-/// A file of checks: its name, and its whole text.
+/// A file of checks, or a policy's: its name, and its whole text.
 #[derive(Drop)]
 pub struct NamedText<'a> {
     pub name: &'a str,
     pub text: Vec<u8>,
 }
 
-/// What is to be checked: the options, the text of the policy that they name, if any, and the files.
+/// What is to be checked: the options, the text of the policy that they name, if any, the policies that sections of the
+/// files name for themselves, by their paths, and the files.
 #[derive(Clone, Copy)]
-pub struct CheckInput<'a, 'w> {
+pub struct CheckInput<'a, 'w, 'p> {
     pub options: &'a CheckOptions<'w>,
     pub policy: &'a [u8],
+    pub policies: &'a [NamedText<'p>],
     pub files: &'a [NamedText<'w>],
 }
 
 /// Why a file can't be read, and its index, from 0.
 #[derive(Clone, Copy)]
 pub(crate) struct BadFile {
-    file: usize,
-    fault: CheckFault,
+    pub file: usize,
+    pub fault: CheckFault,
+}
+
+/// Why sections aren't checked to the end, and the index of the one at which, from 0, if it is one.
+#[derive(Drop)]
+struct Stopped {
+    section: Option<usize>,
+    failure: Failure,
 }
 
 /// Reads all files, up to the first that can't be read. Returns the sections of all.
@@ -102,24 +113,29 @@ pub(crate) fn with_room(mut setup: Setup, tests: usize) -> Setup
     setup
 }
 
-// Returns the setup of a file's tree.
+// Returns the setup of a section's tree.
 fn setup_for(
     alloc: Global,
-    options: &CheckOptions,
-    policy: &[u8],
+    input: &CheckInput<'_, '_, '_>,
+    file: &ReadFile<'_>,
     tests: usize,
 ) -> Result<Setup, Failure>
-    ensures setup { IfOk result (IsSetFor (checked_in options.now) policy.now tests) }
-    ensures failure { IfErr result (MayFail (checked_in options.now) policy.now) }
+    ensures setup { IfOk result (IsSetFor (checked_in input.now.options.now) input.now.policy.now
+        (map source_of input.now.policies.now) (tests_of file.now).own tests) }
+    ensures failure { IfErr result (IsStopped (checked_in input.now.options.now) input.now.policy.now
+        (map source_of input.now.policies.now) (tests_of file.now)) }
 {
-    let mut text = policy;
-    match setup_of(alloc, &options.tree(), &mut text) {
+    let Some(mut text) = input.policy_for(file) else {
+        return Err(Failure::File);
+    };
+    match setup_of(alloc, &tree_for(input.options, file), &mut text) {
         Ok(setup) => Ok(with_room(setup, tests)),
-        Err(failure) => Err(failure),
+        Err(failure) => Err(in_memory(failure)),
     }
 }
 
-fn style_of(options: &CheckOptions) -> Style
+/// Returns the style of the report that the options ask for.
+pub(crate) fn style_of(options: &CheckOptions) -> Style
     ensures { result ≡ style_of (checked_in options.now) }
 {
     match options.form {
@@ -136,17 +152,18 @@ fn style_of(options: &CheckOptions) -> Style
 fn check_one<R: Runner, N: Notes>(
     runner: &R,
     alloc: Global,
-    input: &CheckInput<'_, '_>,
+    input: &CheckInput<'_, '_, '_>,
     file: &ReadFile<'_>,
     report: &mut Vec<u8>,
     notes: &mut N,
 ) -> Result<Tally, Failure>
     ensures checked { IfOk result (IsFileChecked (checked_in input.now.options.now) input.now.policy.now
-        (tests_of file.now) report.old.items report.new.items) }
-    ensures failure { IfErr result (MayFail (checked_in input.now.options.now) input.now.policy.now) }
+        (map source_of input.now.policies.now) (tests_of file.now) report.old.items report.new.items) }
+    ensures failure { IfErr result (IsStopped (checked_in input.now.options.now) input.now.policy.now
+        (map source_of input.now.policies.now) (tests_of file.now)) }
 {
     let tests = file.checks.tests.as_slice();
-    let setup = setup_for(alloc, input.options, input.policy, tests.len())?;
+    let setup = setup_for(alloc, input, file, tests.len())?;
     let header = header_of(&setup);
     let reporter = Reporter {
         alloc,
@@ -156,7 +173,7 @@ fn check_one<R: Runner, N: Notes>(
     };
     let checked = match check_file(runner, report, &reporter, setup, tests) {
         Ok(checked) => checked,
-        Err(fault) => return Err(Failure::of_run(fault)),
+        Err(fault) => return Err(in_memory(Failure::of_run(fault))),
     };
     if reporter.style != Style::Quiet && notes.are_wanted() {
         tell_denied(notes, &reporter, &header, tests, &checked);
@@ -165,8 +182,8 @@ fn check_one<R: Runner, N: Notes>(
 }
 
 impl Tally {
-    // Returns a tally of no tests.
-    fn empty() -> Tally
+    /// Returns a tally of no tests.
+    pub(crate) fn empty() -> Tally
         ensures passed { result.passed ≡ 0 }
         ensures failed { result.failed ≡ 0 }
     {
@@ -176,8 +193,8 @@ impl Tally {
         }
     }
 
-    // Returns the sum of both. Errors: more tests than a number counts, which no memory holds.
-    fn plus(self, other: Tally) -> Result<Tally, Failure>
+    /// Returns the sum of both. Errors: more tests than a number counts, which no memory holds.
+    pub(crate) fn plus(self, other: Tally) -> Result<Tally, Failure>
         ensures passed { IfOk result (λ sum. sum.passed ≡ self.passed + other.passed) }
         ensures failed { IfOk result (λ sum. sum.failed ≡ self.failed + other.failed) }
         ensures failure { IfErr result (λ failure. failure ≡ Failure.NoMemory) }
@@ -196,19 +213,36 @@ impl Tally {
 fn check_all<R: Runner, N: Notes>(
     runner: &R,
     alloc: Global,
-    input: &CheckInput<'_, '_>,
+    input: &CheckInput<'_, '_, '_>,
     files: &[ReadFile<'_>],
     report: &mut Vec<u8>,
     notes: &mut N,
-) -> Result<Tally, Failure>
+) -> Result<Tally, Stopped>
     ensures checked { IfOk result (AreChecked (checked_in input.now.options.now) input.now.policy.now
-        (map tests_of files.now) report.old.items report.new.items) }
-    ensures failure { IfErr result (MayFail (checked_in input.now.options.now) input.now.policy.now) }
+        (map source_of input.now.policies.now) (map tests_of files.now) report.old.items report.new.items) }
+    ensures failure { IfErr result (λ stopped. MayStop (checked_in input.now.options.now) input.now.policy.now
+        (map source_of input.now.policies.now) (map tests_of files.now) stopped.failure) }
 {
     let mut sum = Tally::empty();
-    for file in files {
-        let tally = check_one(runner, alloc, input, file, report, notes)?;
-        sum = sum.plus(tally)?;
+    for (section, file) in files.iter().enumerate() {
+        let tally = match check_one(runner, alloc, input, file, report, notes) {
+            Ok(tally) => tally,
+            Err(failure) => {
+                return Err(Stopped {
+                    section: Some(section),
+                    failure,
+                });
+            }
+        };
+        sum = match sum.plus(tally) {
+            Ok(sum) => sum,
+            Err(failure) => {
+                return Err(Stopped {
+                    section: None,
+                    failure,
+                });
+            }
+        };
     }
     Ok(sum)
 }
@@ -259,8 +293,8 @@ fn end_of(files: &[ReadFile<'_>], sum: Tally) -> Checked
     }
 }
 
-// Returns the whole of a report on tests, of which so many pass and fail.
-fn report_around(
+/// Returns the whole of a report on tests, of which so many pass and fail.
+pub(crate) fn report_around(
     alloc: Global,
     style: Style,
     tests: &[u8],
@@ -279,26 +313,46 @@ fn report_around(
 fn conclude<R: Runner, W: Write, N: Notes>(
     runner: &R,
     alloc: Global,
-    input: &CheckInput<'_, '_>,
+    input: &CheckInput<'_, '_, '_>,
     files: &[ReadFile<'_>],
     out: &mut W,
     notes: &mut N,
-) -> Result<Checked, Failure>
+) -> Result<Checked, Stopped>
     ensures checked { IfOk result (λ end. Writes (W.contents out.old) (W.contents out.new)
-        (Concludes (checked_in input.now.options.now) input.now.policy.now (map tests_of files.now) end)) }
-    ensures failure { IfErr result (MayFail (checked_in input.now.options.now) input.now.policy.now) }
-    ensures begun { IfErr result (HasBegun
-        (Concludes (checked_in input.now.options.now) input.now.policy.now (map tests_of files.now))
-        (W.contents out.old) (W.contents out.new)) }
+        (Concludes (checked_in input.now.options.now) input.now.policy.now (map source_of input.now.policies.now)
+        (map tests_of files.now) end)) }
+    ensures failure { IfErr result (λ stopped. MayStop (checked_in input.now.options.now) input.now.policy.now
+        (map source_of input.now.policies.now) (map tests_of files.now) stopped.failure) }
+    ensures begun { IfErr result (λ stopped. HasBegun
+        (Concludes (checked_in input.now.options.now) input.now.policy.now (map source_of input.now.policies.now)
+        (map tests_of files.now)) (W.contents out.old) (W.contents out.new) stopped.failure) }
 {
     let mut tests = Vec::new(alloc);
     let sum = check_all(runner, alloc, input, files, &mut tests, notes)?;
+    let section = None;
     let Ok(report) = report_around(alloc, style_of(input.options), tests.as_slice(), sum) else {
-        return Err(Failure::NoMemory);
+        let failure = Failure::NoMemory;
+        return Err(Stopped { section, failure });
     };
     match write_bytes(report.as_slice(), out) {
         Ok(()) => Ok(end_of(files, sum)),
-        Err(failure) => Err(failure),
+        Err(failure) => Err(Stopped { section, failure }),
+    }
+}
+
+// Prints where the section at which the check stopped names its own policy, if it does, and notes it.
+fn tell_stopped<E: Write, N: Notes>(
+    alloc: Global,
+    input: &CheckInput<'_, '_, '_>,
+    files: &[ReadFile<'_>],
+    stopped: &Stopped,
+    err: &mut E,
+    notes: &mut N,
+) {
+    if let Some(section) = stopped.section
+        && let Some(file) = files.get(section)
+    {
+        tell_own(alloc, input, file, &stopped.failure, err, notes);
     }
 }
 
@@ -309,12 +363,7 @@ fn tell_line<E: Write>(alloc: Global, file: &NamedText<'_>, line: usize, err: &m
         let _ = writeln!(err, "{name}:{line}:1: a command is expected, or a comment");
         return;
     };
-    let column = blame.column;
-    let expected = blame.expected;
-    let _ = match blame.meant {
-        Some(meant) => writeln!(err, "{name}:{line}:{column}: {expected}: write {meant}"),
-        None => writeln!(err, "{name}:{line}:{column}: {expected}"),
-    };
+    blame.tell(name, line, err);
 }
 
 /// Prints where a line is neither silent nor a test, if that is why files can't be read.
@@ -341,23 +390,26 @@ pub(crate) fn tell_bad<E: Write>(
 
 /// Checks files, each section of each on a tree of its own, and writes the report. All files are read before anything
 /// is run. If a line says nothing, that is printed to `err`, and nothing else is done. A section without a test is
-/// printed there too, and a policy without a chosen profile. If notes are wanted, they get each test that is shown and
-/// fails by a denial, or because none came. Errors: the policy's text gives no setup, a call of the policy's loader is
-/// refused, `out` fails, or memory ran out.
+/// printed there too, a policy without a chosen profile, and where a section names its own policy if that gives no
+/// tree, which is noted. If notes are wanted, they get each test that is shown and fails by a denial, or because none
+/// came. Errors: a section's own policy isn't given; a policy's text gives no setup; a call of its loader is refused;
+/// `out` fails; or memory ran out.
 pub fn check<R: Runner, W: Write, E: Write, N: Notes>(
     runner: &R,
     alloc: Global,
-    input: &CheckInput<'_, '_>,
+    input: &CheckInput<'_, '_, '_>,
     out: &mut W,
     err: &mut E,
     notes: &mut N,
 ) -> Result<Checked, Failure>
     ensures checked { IfOk result (λ end. Writes (W.contents out.old) (W.contents out.new)
-        (IsCheck (checked_in input.now.options.now) input.now.policy.now (map source_of input.now.files.now) end)) }
-    ensures failure { IfErr result (MayFail (checked_in input.now.options.now) input.now.policy.now) }
+        (IsCheck (checked_in input.now.options.now) input.now.policy.now (map source_of input.now.policies.now)
+        (map source_of input.now.files.now) end)) }
+    ensures failure { IfErr result (MayFail (checked_in input.now.options.now) input.now.policy.now
+        (map source_of input.now.policies.now) (map source_of input.now.files.now)) }
     ensures begun { IfErr result (HasBegun
-        (IsCheck (checked_in input.now.options.now) input.now.policy.now (map source_of input.now.files.now))
-        (W.contents out.old) (W.contents out.new)) }
+        (IsCheck (checked_in input.now.options.now) input.now.policy.now (map source_of input.now.policies.now)
+        (map source_of input.now.files.now)) (W.contents out.old) (W.contents out.new)) }
 {
     let files = match read_all(alloc, input.files) {
         Ok(files) => files,
@@ -365,5 +417,11 @@ pub fn check<R: Runner, W: Write, E: Write, N: Notes>(
     };
     tell_no_profile(input.options, err);
     tell_untested(files.as_slice(), err);
-    conclude(runner, alloc, input, files.as_slice(), out, notes)
+    match conclude(runner, alloc, input, files.as_slice(), out, notes) {
+        Ok(end) => Ok(end),
+        Err(stopped) => {
+            tell_stopped(alloc, input, files.as_slice(), &stopped, err, notes);
+            Err(stopped.failure)
+        }
+    }
 }

@@ -6,7 +6,9 @@ ghost use Rattle.ll_rights.specs.declared.limits.TheConstants.{TREE_NODES};
 
 use crate::checking::CheckedFile;
 use crate::judging::{Reporter, command_of};
+use crate::policies::FaultyPolicy;
 use crate::reading::Test;
+use ll_program::Failure;
 use ll_rights::Errno;
 use ll_seq::{Entry, Reply};
 use ll_session::CallReplies;
@@ -24,7 +26,7 @@ pub struct DeniedTest<'a> {
     pub number: usize,
 }
 
-/// Is notified of tests that fail by a denial, or because none came.
+/// Is notified of tests that fail by a denial, or because none came, and of sections' own policies that give no tree.
 pub trait Notes {
     /// Reports whether anything is wanted.
     fn are_wanted(&self) -> bool;
@@ -33,6 +35,9 @@ pub trait Notes {
     fn of_denied(&mut self, header: &Header, test: &DeniedTest<'_>)
         requires some { 1 ≤ header.now.nodes }
         requires most { header.now.nodes ≤ TREE_NODES };
+
+    /// By this policy no tree is opened for a section that names it, with this failure.
+    fn of_own_policy(&mut self, policy: &FaultyPolicy<'_>, failure: &Failure);
 }
 
 // Reports whether a call with this reply has an entry in the history.

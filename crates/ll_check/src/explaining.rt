@@ -1,6 +1,7 @@
 //! What is wrong with a line that is neither silent nor a test. No contract says what is printed: it helps whoever
 //! wrote it.
 
+use crate::own_policy::policy_of;
 use crate::wanted::{read_wanted, verdict_of};
 use ll_policy::rights_meant;
 use ll_program::body_of;
@@ -8,6 +9,7 @@ use ll_rights::limits::WORD_BYTES;
 use ll_rights::{Access, Errno, Kind, Right};
 use ll_wire::{LINE_LIMIT, read_first_words, split_line};
 use std::alloc::{AllocError, Global};
+use std::io::Write;
 
 /// What is expected in place of words that are like no right's name.
 const ALL_RIGHTS: &str =
@@ -98,6 +100,15 @@ impl Blame {
             expected,
             meant: None,
         }
+    }
+
+    /// Prints what is expected in this line, from 1, of a file.
+    pub(crate) fn tell<E: Write>(&self, file: &str, line: usize, err: &mut E) {
+        let (column, expected) = (self.column, self.expected);
+        let _ = match &self.meant {
+            Some(meant) => writeln!(err, "{file}:{line}:{column}: {expected}: write {meant}"),
+            None => writeln!(err, "{file}:{line}:{column}: {expected}"),
+        };
     }
 }
 
@@ -483,6 +494,24 @@ fn blame_section(body: &[u8]) -> Option<Blame> {
     }
 }
 
+// Blames a line of a file of checks that begins as one that names a policy, if it does.
+fn blame_policy(body: &[u8]) -> Option<Blame> {
+    let words = body.strip_prefix(b"@policy".as_slice())?;
+    if policy_of(body).is_some() {
+        return Some(Blame::new(1, "a section names its own policy once, before its tests"));
+    }
+    if !matches!(words.first(), None | Some(b' ')) {
+        return None;
+    }
+    if str::from_utf8(words).is_err() {
+        return Some(Blame::new(8, "UTF-8 is expected"));
+    }
+    Some(Blame::new(
+        body.len().saturating_add(1),
+        "a policy's file and a profile are expected",
+    ))
+}
+
 // Reports whether this is a section's name, with the bracket behind it.
 fn is_section_name(text: &str) -> bool {
     let name = text.trim_end_matches(']');
@@ -493,8 +522,8 @@ fn is_section_name(text: &str) -> bool {
     is_printed && name.as_bytes().iter().any(|b| *b != b' ')
 }
 
-// Returns the line with this number, from 1.
-fn line_at(text: &[u8], number: usize) -> &[u8] {
+/// Returns the line with this number, from 1.
+pub(crate) fn line_at(text: &[u8], number: usize) -> &[u8] {
     let mut rest = text;
     let mut left = number;
     while !rest.is_empty() {
@@ -513,8 +542,8 @@ fn is_too_long(of: LinesOf, body: &[u8]) -> bool {
     body.len() >= LINE_LIMIT && !of.has_replies()
 }
 
-// Blames what an editor has added to the line with this number.
-fn blame_editor(body: &[u8], number: usize) -> Option<Blame> {
+/// Blames what an editor has added to the line with this number.
+pub(crate) fn blame_editor(body: &[u8], number: usize) -> Option<Blame> {
     if number == 1 && body.starts_with(BYTE_ORDER_MARK) {
         return Some(Blame::new(1, "a file without a byte order mark is expected"));
     }
@@ -548,6 +577,11 @@ pub fn explain(
     }
     if of == LinesOf::Checks
         && let Some(blame) = blame_section(body)
+    {
+        return Ok(Some(blame));
+    }
+    if of == LinesOf::Checks
+        && let Some(blame) = blame_policy(body)
     {
         return Ok(Some(blame));
     }

@@ -97,8 +97,8 @@ fn push_got(out: &mut Vec<u8>, alloc: Global, reply: &Reply) -> Result<(), Alloc
 }
 
 impl Tally {
-    // Counts one more test.
-    fn count(&mut self, passes: bool)
+    /// Counts one more test.
+    pub(crate) fn count(&mut self, passes: bool)
         requires passed { self.old.passed < 2 ^ 64 - 1 }
         requires failed { self.old.failed < 2 ^ 64 - 1 }
         ensures passed { self.new.passed ≡ self.old.passed + (if passes then 1 else 0) }

@@ -2,7 +2,7 @@
 
 ghost use Rattle.std.specs.Prelude.{◌≡◌, ◌≤◌, ◌<◌, ◌⊎◌, ℕ, true, false, Some, length, map, string_bytes, IfErr, IfOk};
 ghost use Rattle.std.specs.Prelude.{IfNone, IfSome};
-ghost use Rattle.std.specs.List.{AllZip, list_all};
+ghost use Rattle.std.specs.List.{AllZip, list_all, list_any};
 ghost use Rattle.ll_audit.specs.Saved.{opened};
 ghost use Rattle.ll_learn.specs.Learned.{IsLearned, IsUnlearned};
 ghost use Rattle.ll_learn.specs.declared.fault.Unlearned as fault;
@@ -11,7 +11,7 @@ ghost use Rattle.ll_rights.specs.declared.limits.TheConstants.{TREE_NODES};
 ghost use Rattle.ll_path.specs.Path.{path_of_text};
 ghost use Rattle.ll_program.specs.Learn.{IsWithheld, most_rules, profile_name};
 ghost use Rattle.ll_program.specs.Options.{learn_in};
-ghost use Rattle.ll_check.specs.Checks.{has_test, tests_of};
+ghost use Rattle.ll_check.specs.Checks.{has_own, has_test, tests_of};
 ghost use Rattle.ll_check.specs.Files.{source_of};
 ghost use Rattle.ll_check.specs.Lessons.{AreTaught, AreTried, EndsLessons, FailsToLearn, FailsToMake, HasWrongWord};
 ghost use Rattle.ll_check.specs.Lessons.{IsBlank, IsHindered, IsProfile, IsTaughtBy, TeachNothing, is_of_lessons};
@@ -362,11 +362,35 @@ fn text_of<R: Runner, E: Write, N: Notes>(
     }
 }
 
+fn are_own(files: &[ReadFile<'_>]) -> bool
+    ensures { result ≡ list_any (λ file. has_own (tests_of file)) files.now }
+{
+    files.iter().any(|file| file.has_own())
+}
+
+// Reports whether a section names its own policy.
+fn have_own(files: &[ReadFile<'_>]) -> bool
+    ensures { result ≡ list_any has_own (map tests_of files.now) }
+{
+    are_own(files)
+}
+
+// Prints where a section first names its own policy, which `learn` has no use for.
+fn tell_own<E: Write>(files: &[ReadFile<'_>], err: &mut E) {
+    for file in files {
+        if let Some(own) = &file.own {
+            let (name, line) = (file.name, own.line);
+            let _ = writeln!(err, "{name}:{line}:1: learn takes its policy by --policy");
+            return;
+        }
+    }
+}
+
 /// Learns one layer from the tests that expect no denial, made with nobody under a layer. Writes it as a profile if all
 /// tests pass under it. All files are read before anything is run. Whatever keeps a profile from being written is
-/// printed to `err`: a bad line, a file without a test, a test that isn't met, nothing that can be learned. Errors: a
-/// word is wrong, a path of the words leads to no node, or there are more rules than they allow; the policy's text
-/// gives no setup; a call of its loader is refused; `out` fails; memory ran out.
+/// printed to `err`: a bad line, or one that names a policy; a file without a test; a test that isn't met; nothing that
+/// can be learned. Errors: a word is wrong, a path of the words leads to no node, or there are more rules than they
+/// allow; the policy's text gives no setup; a call of its loader is refused; `out` fails; memory ran out.
 pub fn learn_files<R: Runner, W: Write, E: Write, N: Notes>(
     runner: &R,
     alloc: Global,
@@ -382,12 +406,17 @@ pub fn learn_files<R: Runner, W: Write, E: Write, N: Notes>(
         Ok(request) => request,
         Err(failure) => return Err(failure),
     };
-    let files = match read_all(alloc, input.files) {
-        Ok(files) => files,
+    let read = match read_all(alloc, input.files) {
+        Ok(read) => read,
         Err(bad) => return tell_bad(alloc, input.files, bad, err),
     };
-    if !have_tests(files.as_slice()) {
-        tell_untested(files.as_slice(), err);
+    let files = read.as_slice();
+    if have_own(files) {
+        tell_own(files, err);
+        return Ok(Checked::BadLine);
+    }
+    if !have_tests(files) {
+        tell_untested(files, err);
         return Ok(Checked::Failed);
     }
     let trees = Trees {
@@ -395,7 +424,7 @@ pub fn learn_files<R: Runner, W: Write, E: Write, N: Notes>(
         options: input.options,
         policy: input.policy,
     };
-    let text = match text_of(runner, &trees, &request, files.as_slice(), err, notes) {
+    let text = match text_of(runner, &trees, &request, files, err, notes) {
         Ok(Some(text)) => text,
         Ok(None) => return Ok(Checked::Failed),
         Err(failure) => return Err(failure),

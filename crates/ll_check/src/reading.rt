@@ -1,18 +1,19 @@
 //! Reads files of checks.
 
 ghost use Rattle.std.specs.Prelude.{◌≡◌, ◌==◌, ◌<◌, ◌≤◌, ℕ, [], List, length, map, not, IfErr, IfNone, IfOk, IfSome};
-ghost use Rattle.std.specs.Prelude.{MatchBool, OnOk};
+ghost use Rattle.std.specs.Prelude.{MatchBool, None, OnOk};
 ghost use Rattle.std.specs.List.{list_all, list_any};
 ghost use Rattle.ll_wire.specs.Pieces.{pieces};
 ghost use Rattle.ll_wire.specs.Reads.{Finds};
-ghost use Rattle.ll_check.specs.Checks.{AreSections, IsFirstBad, SaysNothing, SpellsAt, SpellsCall};
-ghost use Rattle.ll_check.specs.Checks.{SpellsSection, SpellsTest, TakesLine, all_of, at_start, has_section, has_test};
-ghost use Rattle.ll_check.specs.Checks.{is_blank, is_name, is_of_name, is_section, reading_of, tests_of, with_section};
-ghost use Rattle.ll_check.specs.Checks.{with_test};
+ghost use Rattle.ll_check.specs.Checks.{AreSections, IsFirstBad, Own, SaysNothing, SpellsAt, SpellsCall};
+ghost use Rattle.ll_check.specs.Checks.{SpellsSection, SpellsTest, TakesLine, all_of, at_start, has_own, has_section};
+ghost use Rattle.ll_check.specs.Checks.{has_test, is_at_head, is_blank, is_name, is_of_name, is_section, placed};
+ghost use Rattle.ll_check.specs.Checks.{reading_of, tests_of, with_own, with_section, with_test};
 ghost use Rattle.ll_check.specs.declared.reading.CheckFault.{CheckFault};
 ghost use Rattle.ll_check.specs.declared.reading.Test.{Test};
 
 use crate::lines::{ended, strip_back, strip_front};
+use crate::own_policy::{OwnPolicy, PolicyWords, policy_of};
 use crate::possible::can_come;
 use crate::wanted::{Wanted, read_wanted};
 use ll_program::{body_of, is_silent};
@@ -39,24 +40,27 @@ pub struct Checks {
 }
 
 /// A section of a file after it was read: the file's name, its own name (empty for what precedes the first line
-/// `[NAME]`), and its tests.
+/// `[NAME]`), its own policy, if it names one, and its tests.
 #[derive(Drop)]
 pub(crate) struct ReadFile<'w> {
     pub name: &'w str,
     pub section: Vec<u8>,
+    pub own: Option<OwnPolicy>,
     pub checks: Checks,
 }
 
 impl<'w> ReadFile<'w> {
-    // Returns a section without tests.
+    // Returns a section without a policy and tests.
     fn new(alloc: Global, name: &'w str, section: Vec<u8>) -> ReadFile<'w>
         ensures name { result.name.now ≡ name.entry.now }
         ensures section { result.section ≡ section }
+        ensures own { result.own ≡ None }
         ensures tests { result.checks.tests.items ≡ [] }
     {
         ReadFile {
             name,
             section,
+            own: None,
             checks: Checks {
                 tests: Vec::new(alloc),
             },
@@ -68,6 +72,20 @@ impl<'w> ReadFile<'w> {
         ensures { result ≡ has_test (tests_of self.now) }
     {
         !self.checks.tests.is_empty()
+    }
+
+    /// Reports whether the section names a policy for itself.
+    pub fn has_own(&self) -> bool
+        ensures { result ≡ has_own (tests_of self.now) }
+    {
+        self.own.is_some()
+    }
+
+    // Reports whether nothing but the section's name has come.
+    fn is_at_head(&self) -> bool
+        ensures { result ≡ is_at_head (tests_of self.now) }
+    {
+        !self.has_test() && !self.has_own()
     }
 }
 
@@ -200,11 +218,11 @@ fn section_of<'a>(body: &'a [u8]) -> Option<&'a [u8]>
 }
 
 impl ReadFile<'_> {
-    // Reports whether the section has no name and no test.
+    // Reports whether the section has no name, no policy and no test.
     fn is_blank(&self) -> bool
         ensures { result ≡ is_blank (tests_of self.now) }
     {
-        self.section.is_empty() && self.checks.tests.is_empty()
+        self.section.is_empty() && self.is_at_head()
     }
 
     // Reports whether the section has this name.
@@ -264,6 +282,27 @@ impl<'w> ReadLines<'w> {
         Ok(())
     }
 
+    // Gives the last section the policy that the line with this number names.
+    fn add_own(
+        &mut self,
+        alloc: Global,
+        words: &PolicyWords<'_>,
+        number: usize,
+    ) -> Result<(), CheckFault>
+        ensures ok { OnOk result ((own : Own) × (own.line ≡ number)
+            × (own.file ≡ placed (reading_of self.old).last.name words.now.file.now)
+            × (own.profile ≡ words.now.profile.now) × (reading_of self.new ≡ with_own (reading_of self.old) own)) }
+        ensures err { IfErr result (λ fault. fault ≡ CheckFault.NoMemory) }
+    {
+        match OwnPolicy::new(alloc, self.last.name, number, words) {
+            Ok(own) => {
+                self.last.own = Some(own);
+                Ok(())
+            }
+            Err(_) => Err(CheckFault::NoMemory),
+        }
+    }
+
     // Ends the last section, and begins one with this name.
     fn add_section(&mut self, alloc: Global, name: &[u8]) -> Result<(), CheckFault>
         ensures ok { OnOk result (reading_of self.new ≡ with_section (reading_of self.old) name.now) }
@@ -300,6 +339,13 @@ impl<'w> ReadLines<'w> {
                 return Err(CheckFault::BadLine(number));
             }
             self.add_section(alloc, name)?;
+            return Ok(());
+        }
+        if let Some(words) = policy_of(body) {
+            if !self.last.is_at_head() {
+                return Err(CheckFault::BadLine(number));
+            }
+            self.add_own(alloc, &words, number)?;
             return Ok(());
         }
         let test = match test_of(alloc, body, number) {

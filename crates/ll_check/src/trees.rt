@@ -33,8 +33,8 @@ fn with_profile(mut setup: Setup, profile: Vec<Call>) -> Setup
     setup
 }
 
-// Returns the failure of a text that is in memory, so that it can be read.
-fn in_memory(failure: Failure) -> Failure
+/// Returns the failure of a text that is in memory, so that it can be read.
+pub(crate) fn in_memory(failure: Failure) -> Failure
     ensures file { result ≡ Failure.File → ⊥ }
     ensures same { (result ≡ failure) ⊎ (result ≡ Failure.NoMemory) }
 {

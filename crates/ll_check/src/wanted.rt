@@ -37,7 +37,8 @@ pub enum Wanted {
     First(FirstWords),
 }
 
-fn is_success(reply: &Reply) -> bool
+/// Reports whether the reply is neither a refusal nor a denial.
+pub(crate) fn is_success(reply: &Reply) -> bool
     ensures { result ≡ is_success reply.now }
 {
     !matches!(reply, Reply::Refused(_) | Reply::Denied(_))

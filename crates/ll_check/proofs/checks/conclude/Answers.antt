@@ -2,7 +2,7 @@ use Rattle.std.proofs.Common.{◌∙◌, ◌≡◌, ◌++◌, ℕ, List, ap, inr
 use Rattle.ll_wire.specs.Writing.{AppendsFront}
 use Rattle.ll_program.specs.Options.{checked_in}
 use Rattle.ll_check.specs.Checks.{tests_of}
-use Rattle.ll_check.specs.Files.{AreChecked, end_of, style_of}
+use Rattle.ll_check.specs.Files.{AreChecked, end_of, source_of, style_of}
 use Rattle.ll_check.specs.Styles.{head, tail}
 use Rattle.ll_check.specs.declared.judging.Style.{Style}
 use Rattle.ll_check.proofs.checks.conclude.Goals as goal
@@ -11,6 +11,7 @@ pub returns-clause-begun : goal.returns-clause-begun
 returns-clause-begun g c =
     let order = checked_in c.args.input.now.options.now in
     let policy = c.args.input.now.policy.now in
+    let policies = map source_of c.args.input.now.policies.now in
     let files = map tests_of c.args.files.now in
     let sum = c.in_ok-sum.sum in
     let tests = c.check_all.new.report.items in
@@ -25,7 +26,7 @@ returns-clause-begun g c =
       (
         tests,
         sum,
-        subst (λ (x : List ℕ). AreChecked order policy files x tests sum) c.new-tests.ensures.items
+        subst (λ (x : List ℕ). AreChecked order policy policies files x tests sum) c.new-tests.ensures.items
             c.in_ok-sum.ensures.checked,
         is,
         refl,

@@ -1,6 +1,6 @@
 use Rattle.std.proofs.Common.{◌≡◌, ◌+◌, ◌++◌, ◌∷◌, [], length, arith}
 use Rattle.std.proofs.lemmas.List.{length-append}
-use Rattle.ll_check.specs.Checks.{at_start, reading_of}
+use Rattle.ll_check.specs.Checks.{reading_of}
 use Rattle.ll_check.proofs.Tests.{one_line_more}
 use Rattle.ll_check.proofs.Told.{cut_on}
 use Rattle.ll_check.proofs.reading.read_sections.Goals as goal

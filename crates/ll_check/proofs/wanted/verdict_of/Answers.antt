@@ -1,4 +1,4 @@
-use Rattle.std.proofs.Common.{◌≡◌, ◌≢◌, codes, rules}
+use Rattle.std.proofs.Common.{◌≢◌, codes, rules}
 use Rattle.ll_check.proofs.Verdicts.{no_verdict, no_verdict_behind}
 use Rattle.ll_check.proofs.wanted.verdict_of.Goals as goal
 

@@ -1,4 +1,4 @@
-use Rattle.ll_check.proofs.Judges.{judged_by, replies_there}
+use Rattle.ll_check.proofs.Judges.{replies_there}
 use Rattle.ll_check.proofs.judging.Reporter.report.Goals as goal
 
 pub judge-requires : goal.judge-requires

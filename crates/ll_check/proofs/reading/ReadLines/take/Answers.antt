@@ -1,6 +1,7 @@
 use Rattle.std.proofs.Common.{◌≡◌, refl}
 use Rattle.ll_check.specs.Checks.{reading_of}
-use Rattle.ll_check.proofs.Tests.{says_nothing, says_vain, test_taken}
+use Rattle.ll_check.proofs.Tests.{says_nothing, says_vain}
+use Rattle.ll_check.proofs.Tests.{test_taken}
 use Rattle.ll_check.proofs.reading.ReadLines.take.Goals as goal
 
 pub returns-clause-ok : goal.returns-clause-ok
@@ -16,7 +17,7 @@ returns-in-Ok-None-clause-bad c = λ k e.
       same,
       says_nothing c.args.line.now c.body_of-body.result.now (reading_of c.args.self.now) c.body_of-body.ensures
           c.if-is_silent.ensures (rw c.in-Ok-None.field-0-is at c.in-Ok-None.ensures.none)
-          c.in_default.ensures.none,
+          c.in_default.ensures.none c.in_default-policy_of.ensures.none,
     )
 
 pub returns-then-not-can_come-clause-bad : goal.returns-then-not-can_come-clause-bad

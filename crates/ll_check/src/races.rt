@@ -1,0 +1,268 @@
+//! Checks of schedules, as the program makes them.
+
+ghost use Rattle.std.specs.Prelude.{◌≡◌, ◌⊎◌, ◌++◌, ℕ, IfErr, IfOk, map};
+ghost use Rattle.std.specs.List.{AllZip, list_all};
+ghost use Rattle.ll_steps.specs.Tells.{Does};
+ghost use Rattle.ll_wire.specs.Transcript.{Writes};
+ghost use Rattle.ll_program.specs.Options.{checked_in};
+ghost use Rattle.ll_program.specs.declared.checked.Checked as checked;
+ghost use Rattle.ll_check.specs.Files.{HasBegun, source_of};
+ghost use Rattle.ll_check.specs.Races.{AreRun, ConcludesRaces, IsRaceCheck, IsRaceSetup, IsRun, IsStepMade, JudgedStep};
+ghost use Rattle.ll_check.specs.Races.{RunsSteps, end_of_races, shown_step};
+ghost use Rattle.ll_check.specs.Steps.{has_step, steps_of};
+
+use crate::checks::{BadFile, NamedText, report_around, style_of};
+use crate::judging::{Reporter, Tally};
+use crate::missteps::tell_misstep;
+use crate::reading::CheckFault;
+use crate::steps::{StepFile, StepTest, read_all_steps};
+use ll_laws::Step;
+use ll_program::{CheckOptions, Checked, Failure, write_bytes};
+use ll_rights::Abi;
+use ll_rights::limits::HISTORY_ENTRIES;
+use ll_seq::Rules;
+use ll_session::copy_call;
+use ll_steps::{Report, World, WorldSetup, answer_text};
+use ll_wire::ScheduleLine;
+use std::alloc::{AllocError, Global};
+use std::io::Write;
+
+// Returns the tree of a schedule with this many tests, each of which may have an entry in the history.
+fn setup_by(options: &CheckOptions, tests: usize) -> WorldSetup
+    ensures { IsRaceSetup (checked_in options.now) tests result }
+{
+    WorldSetup {
+        rules: Rules {
+            abi: options.level.unwrap_or(Abi::NEWEST),
+            copies: true,
+        },
+        nodes: options.nodes,
+        history: tests.max(1).min(HISTORY_ENTRIES),
+    }
+}
+
+fn copy_step(alloc: Global, step: &Step) -> Result<Step, AllocError>
+    ensures { IfOk result (λ copy. copy ≡ step.now) }
+{
+    Ok(match step {
+        Step::Join => Step::Join,
+        Step::Begin(client, call) => Step::Begin(*client, copy_call(alloc, call)?),
+        Step::Descend(client) => Step::Descend(*client),
+        Step::Fork(client) => Step::Fork(*client),
+        Step::Commit(client) => Step::Commit(*client),
+        Step::Restart(client) => Step::Restart(*client),
+        Step::FdCommit(client, call) => Step::FdCommit(*client, copy_call(alloc, call)?),
+        Step::ClientStep(client, call) => Step::ClientStep(*client, copy_call(alloc, call)?),
+    })
+}
+
+// Makes the step, or all steps of the call. Errors: memory for a copy of it ran out.
+fn make_line(alloc: Global, world: &mut World, line: &ScheduleLine) -> Result<Report, AllocError>
+    ensures { IfOk result (λ report. Does world.old line.now report world.new) }
+{
+    match line {
+        ScheduleLine::Step(step) => {
+            let step = copy_step(alloc, step)?;
+            Ok(world.step(step))
+        }
+        ScheduleLine::Do(client, call) => {
+            let call = copy_call(alloc, call)?;
+            Ok(world.make(*client, call))
+        }
+    }
+}
+
+// Makes a test's step, and appends the report on it. Returns whether it passes. Errors: memory ran out.
+fn judge_step(
+    reporter: &Reporter<'_>,
+    world: &mut World,
+    test: &StepTest,
+    out: &mut Vec<u8>,
+) -> Result<bool, AllocError>
+    ensures { IfOk result (λ passes. (it : JudgedStep) × (it.test ≡ test.now) × (it.passes ≡ passes)
+        × IsStepMade world.old it world.new
+        × (out.new.items ≡ out.old.items ++ shown_step reporter.now.style reporter.now.file.now it)) }
+{
+    let report = make_line(reporter.alloc, world, &test.step)?;
+    let history = world.history().entries();
+    let passes = test.wanted.is_met(history, report);
+    let got = answer_text(reporter.alloc, history, Ok(report))?;
+    reporter.push_step(out, test, passes, got.as_bytes())?;
+    Ok(passes)
+}
+
+// Makes the tests of a schedule one after the other, and appends the report on them. Errors: memory ran out.
+fn judge_steps(
+    reporter: &Reporter<'_>,
+    world: &mut World,
+    tests: &[StepTest],
+    out: &mut Vec<u8>,
+) -> Result<Tally, AllocError>
+    ensures { IfOk result (λ tally. RunsSteps reporter.now.style reporter.now.file.now world.old tests.now
+        out.old.items out.new.items tally world.new) }
+{
+    let mut tally = Tally::empty();
+    for i in 0..tests.len() {
+        let passes = judge_step(reporter, world, &tests[i], out)?;
+        tally.count(passes);
+    }
+    Ok(tally)
+}
+
+// Makes the tests of a schedule in a tree of its own, and appends the report on them.
+fn run_file(
+    alloc: Global,
+    options: &CheckOptions,
+    file: &StepFile<'_>,
+    report: &mut Vec<u8>,
+) -> Result<Tally, Failure>
+    ensures run { IfOk result (IsRun (checked_in options.now) (steps_of file.now) report.old.items report.new.items) }
+    ensures failure { IfErr result (λ failure. failure ≡ Failure.NoMemory) }
+{
+    let tests = file.tests.as_slice();
+    let setup = setup_by(options, tests.len());
+    let reporter = Reporter {
+        alloc,
+        style: style_of(options),
+        file: file.name.as_bytes(),
+        section: b"",
+    };
+    let Ok(mut world) = World::new(alloc, setup.rules, setup.nodes, setup.history) else {
+        return Err(Failure::NoMemory);
+    };
+    match judge_steps(&reporter, &mut world, tests, report) {
+        Ok(tally) => Ok(tally),
+        Err(_) => Err(Failure::NoMemory),
+    }
+}
+
+// Runs all schedules, one after the other.
+fn run_all(
+    alloc: Global,
+    options: &CheckOptions,
+    files: &[StepFile<'_>],
+    report: &mut Vec<u8>,
+) -> Result<Tally, Failure>
+    ensures run { IfOk result (AreRun (checked_in options.now) (map steps_of files.now)
+        report.old.items report.new.items) }
+    ensures failure { IfErr result (λ failure. failure ≡ Failure.NoMemory) }
+{
+    let mut sum = Tally::empty();
+    for file in files {
+        let tally = run_file(alloc, options, file, report)?;
+        sum = sum.plus(tally)?;
+    }
+    Ok(sum)
+}
+
+impl StepFile<'_> {
+    // Reports whether the schedule has a test.
+    fn has_step(&self) -> bool
+        ensures { result ≡ has_step (steps_of self.now) }
+    {
+        !self.tests.is_empty()
+    }
+}
+
+fn are_tested(files: &[StepFile<'_>]) -> bool
+    ensures { result ≡ list_all (λ file. has_step (steps_of file)) files.now }
+{
+    files.iter().all(|file| file.has_step())
+}
+
+// Reports whether each schedule has a test.
+fn have_steps(files: &[StepFile<'_>]) -> bool
+    ensures { result ≡ list_all has_step (map steps_of files.now) }
+{
+    are_tested(files)
+}
+
+// Prints which schedules have no test.
+fn tell_untested<E: Write>(files: &[StepFile<'_>], err: &mut E) {
+    for file in files {
+        if !file.has_step() {
+            let _ = writeln!(err, "no test in {}", file.name);
+        }
+    }
+}
+
+// Returns the result of the check.
+fn end_of(files: &[StepFile<'_>], sum: Tally) -> Checked
+    ensures { result ≡ end_of_races (map steps_of files.now) sum }
+{
+    if have_steps(files) && sum.failed == 0 {
+        Checked::Passed
+    } else {
+        Checked::Failed
+    }
+}
+
+// Runs the schedules that were read, and writes the report.
+fn conclude<W: Write>(
+    alloc: Global,
+    options: &CheckOptions,
+    files: &[StepFile<'_>],
+    out: &mut W,
+) -> Result<Checked, Failure>
+    ensures checked { IfOk result (λ end. Writes (W.contents out.old) (W.contents out.new)
+        (ConcludesRaces (checked_in options.now) (map steps_of files.now) end)) }
+    ensures failure { IfErr result (λ failure. (failure ≡ Failure.Output) ⊎ (failure ≡ Failure.NoMemory)) }
+    ensures begun { IfErr result (HasBegun (ConcludesRaces (checked_in options.now) (map steps_of files.now))
+        (W.contents out.old) (W.contents out.new)) }
+{
+    let mut tests = Vec::new(alloc);
+    let sum = run_all(alloc, options, files, &mut tests)?;
+    let Ok(report) = report_around(alloc, style_of(options), tests.as_slice(), sum) else {
+        return Err(Failure::NoMemory);
+    };
+    match write_bytes(report.as_slice(), out) {
+        Ok(()) => Ok(end_of(files, sum)),
+        Err(failure) => Err(failure),
+    }
+}
+
+// Prints where a line is neither silent nor a test, if that is why schedules can't be read.
+fn tell_bad<E: Write>(
+    alloc: Global,
+    files: &[NamedText<'_>],
+    bad: BadFile,
+    err: &mut E,
+) -> Result<Checked, Failure>
+    ensures line { IfOk result (λ end. (end ≡ checked.Checked.BadLine)
+        × (line : ℕ) × (bad.fault ≡ CheckFault.BadLine line)) }
+    ensures failure { IfErr result (λ failure. failure ≡ Failure.NoMemory) }
+{
+    match bad.fault {
+        CheckFault::BadLine(line) => {
+            if let Some(file) = files.get(bad.file) {
+                tell_misstep(alloc, file, line, err);
+            }
+            Ok(Checked::BadLine)
+        }
+        CheckFault::NoMemory => Err(Failure::NoMemory),
+    }
+}
+
+/// Checks schedules, each in a tree of its own, and writes the report. All are read before anything is run. If a line
+/// says nothing, that is printed to `err`, and nothing else is done. A schedule without a test is printed there too.
+/// Errors: `out` fails, or memory ran out.
+pub fn check_schedules<W: Write, E: Write>(
+    alloc: Global,
+    options: &CheckOptions,
+    files: &[NamedText<'_>],
+    out: &mut W,
+    err: &mut E,
+) -> Result<Checked, Failure>
+    ensures checked { IfOk result (λ end. Writes (W.contents out.old) (W.contents out.new)
+        (IsRaceCheck (checked_in options.now) (map source_of files.now) end)) }
+    ensures failure { IfErr result (λ failure. (failure ≡ Failure.Output) ⊎ (failure ≡ Failure.NoMemory)) }
+    ensures begun { IfErr result (HasBegun (IsRaceCheck (checked_in options.now) (map source_of files.now))
+        (W.contents out.old) (W.contents out.new)) }
+{
+    let read = match read_all_steps(alloc, files) {
+        Ok(read) => read,
+        Err(bad) => return tell_bad(alloc, files, bad, err),
+    };
+    tell_untested(read.as_slice(), err);
+    conclude(alloc, options, read.as_slice(), out)
+}
