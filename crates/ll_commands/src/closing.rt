@@ -29,8 +29,7 @@ pub(crate) fn close<N: Shape, H: Wait, G: Gate<N>>(
             are_entries(&history);
             history
         }
-        Err(back) => {
-            drop(back);
+        Err(_back) => {
             for _ in rt.forever() {}
             unreachable!()
         }

@@ -120,6 +120,7 @@ fn serve_all<
     let served = serve_door(rt, alloc, &host, &door, options, log);
     log.end();
     let Ok(rooms) = served else {
+        drop(close(rt, tree, clients));
         return Err(Failure::NoMemory);
     };
     let mut clients = clients;

@@ -81,13 +81,24 @@ fn answer_of_command<R: Read>(
     };
     let call = match call_of(alloc, word) {
         Ok(call) => call,
-        Err(failure) => return Err(failure),
+        Err(failure) => {
+            drop(calls);
+            return Err(failure);
+        }
     };
     let setup = match setup_of(alloc, tree, file) {
         Ok(setup) => setup,
-        Err(failure) => return Err(failure),
+        Err(failure) => {
+            drop(call);
+            drop(calls);
+            return Err(failure);
+        }
     };
-    match told_of_setup(alloc, style, &setup, calls.as_slice(), &call) {
+    let told = told_of_setup(alloc, style, &setup, calls.as_slice(), &call);
+    drop(setup);
+    drop(call);
+    drop(calls);
+    match told {
         Ok(text) => Ok(Answer::Told(text)),
         Err(failure) => Err(failure),
     }

@@ -26,14 +26,14 @@ returns-in-Err-call_of-clause-failure g c =
           c.in-Err-call_of.ensures.failure (λ is. inl (c.in-Err-call_of.ensures.bad is)),
     )
 
-pub told_of_setup-requires-clause-before : goal.told_of_setup-requires-clause-before
-told_of_setup-requires-clause-before g c =
+pub told_of_setup-told-requires-clause-before : goal.told_of_setup-told-requires-clause-before
+told_of_setup-told-requires-clause-before g c =
     subst AreOthers (sym c.as_slice.ensures.value) (others _ c.in-Ok.calls.items c.in-Ok.ensures.calls)
 
-pub returns-in-Ok-told_of_setup-clause-told : goal.returns-in-Ok-told_of_setup-clause-told
-returns-in-Ok-told_of_setup-clause-told g c =
+pub returns-in-Ok-told-clause-told : goal.returns-in-Ok-told-clause-told
+returns-in-Ok-told-clause-told g c =
     let s = c.in-Ok-setup_of.ensures.setup in
-    let told = c.in-Ok-told_of_setup.ensures.told in (
+    let told = c.in-Ok-told.ensures.told in (
       s.0,
       s.1,
       record {
@@ -52,12 +52,12 @@ returns-in-Ok-told_of_setup-clause-told g c =
       },
     )
 
-pub returns-clause-failure : goal.returns-clause-failure
-returns-clause-failure g c =
+pub returns-in-Err-told-clause-failure : goal.returns-in-Err-told-clause-failure
+returns-in-Err-told-clause-failure g c =
     let s = c.in-Ok-setup_of.ensures.setup in (
       s.0,
       s.1,
       by_opening (tree_in c.args.tree.now) _ c.args.word.now s.0 c.in-Ok-setup_of.setup
-          c.in-Err-told_of_setup.failure s.2
-          c.in-Err-told_of_setup.ensures.failure,
+          c.in-Err-told.failure s.2
+          c.in-Err-told.ensures.failure,
     )
