@@ -26,6 +26,7 @@ check_of order =
       quiet = false;
       verbose = false;
       form = Some Text;
+      schedule = false;
     }
 
 -- if the checks pass, the same text of the policy is exported; if not, with 3

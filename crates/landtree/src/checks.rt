@@ -2,27 +2,28 @@
 
 ghost use Rattle.std.specs.Prelude.{◌≡◌, ◌⊎◌, ℕ, true, false, List, Option, None, Some, Err, IfErr, IfOk, IfSome};
 ghost use Rattle.std.specs.Prelude.{map, option_map};
-ghost use Rattle.std.specs.List.{AllZip};
+ghost use Rattle.std.specs.List.{All, AllZip};
 ghost use Rattle.ll_program.specs.Sources.{named};
 ghost use Rattle.ll_program.specs.Options.{checked_in, exported_in, fits_check, fits_export};
 ghost use Rattle.ll_program.specs.Options.{is_checked};
 ghost use Rattle.ll_program.specs.Failure.{EndsExport};
 ghost use Rattle.ll_check.specs.Ends.{BeginsCheck, EndsCheck, FailsCheck, IsCheckOf, IsCheckedUnder, IsPolicyText};
-ghost use Rattle.ll_check.specs.Ends.{IsSource};
-ghost use Rattle.ll_check.specs.Files.{source_of};
+ghost use Rattle.ll_check.specs.Ends.{IsCheckBy, IsPolicySource, IsSource, MayFailBy};
+ghost use Rattle.ll_check.specs.Files.{HasBegun, IsCheck, MayFail, Source, source_of};
 ghost use Rattle.landtree.specs.Checked.{EndsChecked, WritesExport, check_of};
 ghost use Rattle.ll_wire.specs.Transcript.{Writes};
 ghost use Rattle.ll_commands.specs.Export as exports;
 
 use crate::hints::Hints;
 use crate::misfits::Misfit;
-use ll_check::{CheckInput, NamedText, SharedRunner, check};
+use ll_check::{CheckInput, NamedText, SharedRunner, check, check_schedules, own_policies};
 use ll_commands::{export, export_checked};
 use ll_program::{
     CheckOptions, Checked, Conclusion, ExportOptions, Failure, Late, ReportForm, Sources, named,
     read_text,
 };
 use ll_rights::limits::TREE_NODES;
+use std::alloc::Global;
 use std::io::Write;
 use std::sync::Wait;
 
@@ -97,6 +98,136 @@ pub(crate) fn texts_of<'a, S: Sources>(
     Ok(files)
 }
 
+// Reports whether a line of these files may name a policy.
+fn may_name_policies(files: &[NamedText<'_>]) -> bool {
+    files.iter().any(|file| {
+        file.text
+            .as_slice()
+            .split(|b| *b == b'\n')
+            .any(|line| line.starts_with(b"@policy "))
+    })
+}
+
+// Returns the paths of the policies that sections of these files name for themselves.
+fn policy_paths(alloc: Global, files: &[NamedText<'_>]) -> Result<Vec<String>, Failure>
+    ensures { IfErr result (λ failure. failure ≡ Failure.NoMemory) }
+{
+    if may_name_policies(files) {
+        own_policies(alloc, files)
+    } else {
+        Ok(Vec::new(alloc))
+    }
+}
+
+// Reads the policy at this path.
+fn named_policy<'a, S: Sources>(
+    rt: &HostRuntime,
+    sources: &S,
+    path: &'a str,
+    hints: &mut Hints,
+) -> Result<NamedText<'a>, Failure>
+    ensures source { IfOk result (λ policy. IsPolicySource (S.texts sources.now) (source_of policy)) }
+    ensures failure { IfErr result (λ failure. (failure ≡ Failure.File) ⊎ (failure ≡ Failure.NoMemory)) }
+{
+    let text = text_of(rt, sources, "policy", Some(path), hints)?;
+    Ok(NamedText { name: path, text })
+}
+
+// Reads the policies at these paths.
+fn policies_of<'a, S: Sources>(
+    rt: &HostRuntime,
+    sources: &S,
+    paths: &'a [String],
+    hints: &mut Hints,
+) -> Result<Vec<NamedText<'a>>, Failure>
+    ensures sources { IfOk result (λ policies. All (IsPolicySource (S.texts sources.now))
+        (map source_of policies.items)) }
+    ensures failure { IfErr result (λ failure. (failure ≡ Failure.File) ⊎ (failure ≡ Failure.NoMemory)) }
+{
+    let mut policies = Vec::new(rt.alloc());
+    for path in paths {
+        let policy = named_policy(rt, sources, path.as_str(), hints)?;
+        if let Err(refused) = policies.push(policy) {
+            drop(refused);
+            return Err(Failure::NoMemory);
+        }
+    }
+    Ok(policies)
+}
+
+// Checks these files, by the given policy and those that their sections name, which are read first.
+fn check_texts<S: Sources + Wait, W: Write>(
+    rt: &HostRuntime,
+    sources: &S,
+    given: &CheckInput<'_, '_, '_>,
+    out: &mut W,
+    hints: &mut Hints,
+) -> Result<Checked, Failure>
+    ensures checked { IfOk result (λ end. (policies : List Source)
+        × All (IsPolicySource (S.texts sources.now)) policies × Writes (W.contents out.old) (W.contents out.new)
+        (IsCheck (checked_in given.now.options.now) given.now.policy.now policies
+        (map source_of given.now.files.now) end)) }
+    ensures failure { IfErr result (λ failure. (failure ≡ Failure.File) ⊎ ((policies : List Source)
+        × All (IsPolicySource (S.texts sources.now)) policies
+        × MayFail (checked_in given.now.options.now) given.now.policy.now policies
+        (map source_of given.now.files.now) failure)) }
+    ensures begun { IfErr result (λ failure. (policies : List Source)
+        × All (IsPolicySource (S.texts sources.now)) policies × HasBegun
+        (IsCheck (checked_in given.now.options.now) given.now.policy.now policies (map source_of given.now.files.now))
+        (W.contents out.old) (W.contents out.new) failure) }
+{
+    let paths = match policy_paths(rt.alloc(), given.files) {
+        Ok(paths) => paths,
+        Err(failure) => return Err(failure),
+    };
+    let policies = match policies_of(rt, sources, paths.as_slice(), hints) {
+        Ok(policies) => policies,
+        Err(failure) => return Err(failure),
+    };
+    let (options, policy, files) = (given.options, given.policy, given.files);
+    let input = CheckInput {
+        options,
+        policy,
+        policies: policies.as_slice(),
+        files,
+    };
+    let runner = SharedRunner { rt: sources };
+    check(&runner, rt.alloc(), &input, out, &mut rt.stderr(), hints)
+}
+
+// Checks these files, or these schedules, which have no policy.
+fn check_read<S: Sources + Wait, W: Write>(
+    rt: &HostRuntime,
+    sources: &S,
+    given: &CheckInput<'_, '_, '_>,
+    out: &mut W,
+    hints: &mut Hints,
+) -> Result<Checked, Failure>
+    ensures checked { IfOk result (λ end. (policies : List Source)
+        × All (IsPolicySource (S.texts sources.now)) policies × Writes (W.contents out.old) (W.contents out.new)
+        (IsCheckBy given.now.options.now.schedule (checked_in given.now.options.now) given.now.policy.now policies
+        (map source_of given.now.files.now) end)) }
+    ensures failure { IfErr result (λ failure. (failure ≡ Failure.File) ⊎ ((policies : List Source)
+        × All (IsPolicySource (S.texts sources.now)) policies
+        × MayFailBy given.now.options.now.schedule (checked_in given.now.options.now) given.now.policy.now policies
+        (map source_of given.now.files.now) failure)) }
+    ensures begun { IfErr result (λ failure. (policies : List Source)
+        × All (IsPolicySource (S.texts sources.now)) policies × HasBegun
+        (IsCheckBy given.now.options.now.schedule (checked_in given.now.options.now) given.now.policy.now policies
+        (map source_of given.now.files.now)) (W.contents out.old) (W.contents out.new) failure) }
+{
+    if given.options.schedule {
+        return check_schedules(
+            rt.alloc(),
+            given.options,
+            given.files,
+            out,
+            &mut rt.stderr(),
+        );
+    }
+    check_texts(rt, sources, given, out, hints)
+}
+
 // Checks the given files.
 fn check_files<S: Sources + Wait, W: Write>(
     rt: &HostRuntime,
@@ -124,10 +255,10 @@ fn check_files<S: Sources + Wait, W: Write>(
     let input = CheckInput {
         options,
         policy: policy.as_slice(),
+        policies: &[],
         files: files.as_slice(),
     };
-    let runner = SharedRunner { rt: sources };
-    let checked = check(&runner, rt.alloc(), &input, out, &mut rt.stderr(), hints);
+    let checked = check_read(rt, sources, &input, out, hints);
     if let Err(failure) = &checked {
         hints.of_check(options, failure, policy.as_slice());
     }
@@ -212,20 +343,15 @@ fn check_profile<S: Sources + Wait>(
         quiet: false,
         verbose: false,
         form: Some(ReportForm::Text),
+        schedule: false,
     };
     let input = CheckInput {
         options: &options,
         policy,
+        policies: &[],
         files: files.as_slice(),
     };
-    check(
-        &SharedRunner { rt: sources },
-        rt.alloc(),
-        &input,
-        &mut rt.stderr(),
-        &mut rt.stderr(),
-        hints,
-    )
+    check_texts(rt, sources, &input, &mut rt.stderr(), hints)
 }
 
 // Writes the text of the exported profile, by the policy with this text, if the profile passes the files of checks.

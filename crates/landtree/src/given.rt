@@ -3,6 +3,9 @@
 ghost use Rattle.std.specs.Prelude.{◌≤◌};
 ghost use Rattle.ll_rights.specs.declared.limits.TheConstants.{HISTORY_ENTRIES, TREE_NODES};
 
+use ll_check::FaultyPolicy;
+use ll_rights::limits::HISTORY_ENTRIES;
+
 /// A policy that a command has read, and how its tree is opened: for clients of this profile, if one is asked for, with
 /// these limits of live nodes and history entries.
 #[derive(Drop)]
@@ -38,5 +41,16 @@ impl<'a> Given<'a> {
             nodes,
             history,
         })
+    }
+
+    /// Returns a section's own policy, with the most room in the history.
+    pub fn of_own(policy: &FaultyPolicy<'a>) -> Given<'a> {
+        Given {
+            name: policy.path,
+            text: policy.text,
+            profile: Some(policy.profile),
+            nodes: policy.nodes,
+            history: HISTORY_ENTRIES,
+        }
     }
 }

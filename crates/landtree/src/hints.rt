@@ -8,7 +8,7 @@ use crate::given::Given;
 use crate::misfits::Misfit;
 use crate::refusal::refused_text;
 use ll_audit::{Saved, Verdict};
-use ll_check::{Blame, DeniedTest, LinesOf, Notes, ended, explain};
+use ll_check::{Blame, DeniedTest, FaultyPolicy, LinesOf, Notes, ended, explain};
 use ll_commands::flaw_of;
 use ll_policy::{PlacedFault, Policy, policy_faults, read_document, toml_trouble};
 use ll_program::{Failure, Late, NewFile, Sources, body_of, is_silent};
@@ -470,7 +470,7 @@ impl Hints {
         let Ok(line) = format!(in self.alloc; "{command}\n") else {
             return;
         };
-        if let Err(Errno::BadLine) = read_command(self.alloc, line.as_bytes(), 1) {
+        if is_no_command(self.alloc, line.as_bytes(), 0) {
             self.of_command(LinesOf::Word, "COMMAND", command.as_bytes(), 1);
         }
     }
@@ -592,5 +592,9 @@ impl Notes for Hints {
         {
             let _ = self.push_named(place.as_str(), told.as_str());
         }
+    }
+
+    fn of_own_policy(&mut self, policy: &FaultyPolicy<'_>, failure: &Failure) {
+        self.of_failure(failure, &Given::of_own(policy));
     }
 }

@@ -43,6 +43,8 @@ pub enum Misfit<'a> {
     /// The words of `learn` give neither checks nor a history.
     NeitherChecksNorHistory,
     ControlCharacter,
+    /// Schedules together with a policy.
+    ScheduleUnderPolicy,
 }
 
 impl Display for Misfit<'_> {
@@ -80,6 +82,9 @@ impl Display for Misfit<'_> {
                     "a file's name has a control character, and would end a comment of the profile",
                 )
             }
+            Misfit::ScheduleUnderPolicy => f.write_str(
+                "--schedule has no place beside --policy: clients of a schedule make their layers by its steps",
+            ),
             Misfit::NoPath(word) => write!(
                 f,
                 "{word} is no path: / is expected, or / and a name again and again"
@@ -185,6 +190,9 @@ impl<'a> Misfit<'a> {
                 return Some(Misfit::PartOfReport);
             }
             Some(_) => {}
+        }
+        if options.schedule && options.policy.is_some() {
+            return Some(Misfit::ScheduleUnderPolicy);
         }
         of_setup(options.level.is_some(), options.policy, options.profile)
     }

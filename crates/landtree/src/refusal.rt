@@ -251,6 +251,46 @@ fn profile_calls(
     }
 }
 
+// Returns the text on where a client stops.
+fn told_stop(
+    alloc: Global,
+    ground: &Ground<'_>,
+    comer: Comer<'_>,
+    stop: Stop<'_>,
+) -> Result<Option<String>, AllocError> {
+    let told = stop_text(alloc, ground, comer, &stop);
+    drop(stop);
+    Ok(Some(told?))
+}
+
+// Returns the text on where the loader stops in a new tree, or else the client that makes these calls.
+fn first_text(
+    alloc: Global,
+    ground: &Ground<'_>,
+    given: &Given<'_>,
+    comer: Comer<'_>,
+    calls: &[Call],
+) -> Result<Option<String>, AllocError>
+    requires nodes { AreOthers ground.now.nodes.now }
+    requires calls { AreOthers calls.now }
+{
+    let rules = Rules {
+        abi: ground.abi,
+        copies: true,
+    };
+    let mut tree = Plain::new(alloc, rules, given.nodes)?;
+    let mut room = given.history;
+    let told = match come(&mut tree, &mut room, ground.nodes) {
+        Some(stop) => told_stop(alloc, ground, Comer::Loader, stop),
+        None => match come(&mut tree, &mut room, calls) {
+            Some(stop) => told_stop(alloc, ground, comer, stop),
+            None => Ok(None),
+        },
+    };
+    drop(tree);
+    told
+}
+
 /// Returns the lines on the first call that is refused when a tree is opened with this policy: where the policy asks
 /// for it, the call, and its reply. None if no call is refused.
 pub(crate) fn refused_text(
@@ -259,24 +299,21 @@ pub(crate) fn refused_text(
     given: &Given<'_>,
     profile: Option<&str>,
 ) -> Result<Option<String>, AllocError> {
-    let rules = Rules {
-        abi: policy.abi(),
-        copies: true,
-    };
-    let mut tree = Plain::new(alloc, rules, given.nodes)?;
-    let mut room = given.history;
     let nodes = policy.opening(alloc)?;
+    let calls = match profile_calls(alloc, policy, profile) {
+        Ok(calls) => calls,
+        Err(error) => {
+            drop(nodes);
+            return Err(error);
+        }
+    };
     let ground = Ground {
         abi: policy.abi(),
         nodes: nodes.as_slice(),
     };
-    if let Some(stop) = come(&mut tree, &mut room, nodes.as_slice()) {
-        return Ok(Some(stop_text(alloc, &ground, Comer::Loader, &stop)?));
-    }
     let comer = Comer::Profile(profile.unwrap_or(""));
-    let calls = profile_calls(alloc, policy, profile)?;
-    match come(&mut tree, &mut room, calls.as_slice()) {
-        Some(stop) => Ok(Some(stop_text(alloc, &ground, comer, &stop)?)),
-        None => Ok(None),
-    }
+    let told = first_text(alloc, &ground, given, comer, calls.as_slice());
+    drop(calls);
+    drop(nodes);
+    told
 }
