@@ -35,7 +35,7 @@ use Rattle.ll_session.specs.declared.stop.Stop.{Stop}
 use Rattle.ll_embed.specs.Alone.{IsTextRun}
 use Rattle.ll_embed.specs.declared.fault.Fault.{Fault}
 use Rattle.ll_embed.specs.declared.fault.Fault.TheVariants.{Misfit, NoEntry, NoMemory, NoProfile, Opening, Policy}
-use Rattle.ll_embed.specs.declared.fault.Fault.TheVariants.{TooLong}
+use Rattle.ll_embed.specs.declared.fault.Fault.TheVariants.{OwnPolicy, TooLong}
 use Rattle.ll_embed.specs.declared.given.Given.{Given}
 
 -- ---- how a tree is set up
@@ -136,6 +136,7 @@ status_of (Policy fault) = 2
 status_of NoProfile = 2
 status_of Opening = 2
 status_of NoEntry = 2
+status_of OwnPolicy = 2
 status_of TooLong = 1
 status_of NoMemory = 4
 
@@ -162,6 +163,7 @@ MayFail o (Policy fault) = (o.policy ≡ [] → ⊥) × IsFaultOf o.policy fault
 MayFail o NoProfile = HasNoProfile o
 MayFail o Opening = (setup : Setup) × IsSetup o setup × MayEnd setup run.Opening
 MayFail o NoEntry = ⊥
+MayFail o OwnPolicy = ⊥
 MayFail o TooLong = most_reads ≤ length o.script
 MayFail o NoMemory = ⊤
 

@@ -1,5 +1,5 @@
 -- What a check of a text answers. own
-use Rattle.std.specs.Prelude.{◌≡◌, ◌≢◌, ◌⊎◌, ◌≤◌, ℕ, true, ◌==◌, List, [], ◌∷◌, Option, Some, None, codes}
+use Rattle.std.specs.Prelude.{◌≡◌, ◌≢◌, ◌⊎◌, ◌≤◌, ℕ, true, false, ◌==◌, List, [], ◌∷◌, Option, Some, None, codes}
 use Rattle.std.specs.Prelude.{if◌then◌else◌}
 use Rattle.std.specs.Str.{IsUtf8}
 use Rattle.ll_rights.specs.declared.limits.TheConstants.{TREE_NODES}
@@ -9,12 +9,13 @@ use Rattle.ll_program.specs.declared.checked.Checked.{Checked}
 use Rattle.ll_program.specs.declared.checked.Checked.TheVariants.{BadLine}
 use Rattle.ll_program.specs.declared.conclusion.Conclusion.TheVariants as conclusion
 use Rattle.ll_program.specs.declared.failure.Failure.{Failure}
+use Rattle.ll_program.specs.declared.failure.Failure.TheVariants.{File}
 use Rattle.ll_program.specs.declared.report.ReportForm.{ReportForm}
 use Rattle.ll_program.specs.declared.report.ReportForm.TheVariants.{Json, Junit, Tap, Text}
 use Rattle.ll_check.specs.Files.{IsCheck, MayFail, Source}
 use Rattle.ll_embed.specs.Answers.{fault_at, status_of}
 use Rattle.ll_embed.specs.declared.fault.Fault.{Fault}
-use Rattle.ll_embed.specs.declared.fault.Fault.TheVariants.{Misfit, NoMemory}
+use Rattle.ll_embed.specs.declared.fault.Fault.TheVariants.{Misfit, NoMemory, OwnPolicy}
 use Rattle.ll_embed.specs.declared.file_check.CheckGiven.{CheckGiven}
 
 -- the numbers and texts of a check: those that set its trees up, the form of its report, a file's name and its text
@@ -67,6 +68,7 @@ order_of a = record {
   quiet = a.form == 1;
   verbose = a.form == 2;
   form = Some (form_by a.form);
+  schedule = false;
 }
 
 abbrev pub source_in : CheckAsked → Source
@@ -82,17 +84,24 @@ pub record CheckFits (a : CheckAsked) : Type 0 where
   pub name : IsUtf8 a.name
   pub together : fits_check (order_of a) ≡ true
 
--- why nothing is checked to the end: the words are wrong; the program's check may fail so; or memory ran out
+-- what the program's failure is here, where no file is opened: only a section's own policy is missing then
+abbrev pub check_fault : Failure → Fault
+check_fault File = OwnPolicy
+check_fault failure = fault_at failure
+
+-- why nothing is checked to the end: the words are wrong; the program's check, without policies of sections, may fail
+-- so; or memory ran out
 abbrev pub MayFailCheck : CheckAsked → Fault → Type 0
 MayFailCheck a fault =
     ((fault ≡ Misfit) × (CheckFits a → ⊥))
-    ⊎ (CheckFits a × (failure : Failure) × MayFail (order_of a) a.policy failure × (fault ≡ fault_at failure))
+    ⊎ (CheckFits a × (failure : Failure) × MayFail (order_of a) a.policy [] (source_in a ∷ []) failure
+    × (fault ≡ check_fault failure))
     ⊎ (fault ≡ NoMemory)
 
 -- the program's report and its status; if a line is wrong, words for people
 abbrev pub IsCheckTold : CheckAsked → (status : ℕ) → (text : List ℕ) → Type 0
 IsCheckTold a status text =
-    CheckFits a × (end : Checked) × (report : List ℕ) × IsCheck (order_of a) a.policy (source_in a ∷ []) end report
+    CheckFits a × (end : Checked) × (report : List ℕ) × IsCheck (order_of a) a.policy [] (source_in a ∷ []) end report
     × (status ≡ status_by (conclusion.Checked end)) × (end ≢ BadLine → text ≡ report)
 
 abbrev pub CheckAnswers : CheckAsked → (status : ℕ) → (text : List ℕ) → Type 0

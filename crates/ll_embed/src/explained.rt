@@ -58,15 +58,21 @@ fn why_of(alloc: Global, given: &ProfileGiven<'_>, commands: &[u8]) -> Result<St
     let setup = given.setup(alloc)?;
     let calls = match calls_in(alloc, commands) {
         Ok(calls) => calls,
-        Err(failure) => return Err(AskFault::of_lines(failure, AskFault::WrongCommand)),
+        Err(failure) => {
+            drop(setup);
+            return Err(AskFault::of_lines(failure, AskFault::WrongCommand));
+        }
     };
-    match told_of_setup(
+    let told = told_of_setup(
         alloc,
         WhyStyle::Lines,
         &setup,
         calls.before.as_slice(),
         &calls.last,
-    ) {
+    );
+    drop(setup);
+    drop(calls);
+    match told {
         Ok(text) => Ok(text),
         Err(failure) => Err(AskFault::Tree(fault_at(failure))),
     }

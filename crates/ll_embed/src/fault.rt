@@ -20,6 +20,8 @@ pub enum Fault {
     Opening,
     /// The history doesn't have the entry.
     NoEntry,
+    /// A section of a file of checks names its own policy, and no file is opened here.
+    OwnPolicy,
     /// The script is too long.
     TooLong,
     NoMemory,
@@ -31,8 +33,8 @@ impl Fault {
         ensures { result ≡ status_of self }
     {
         match self {
-            Fault::Misfit | Fault::Policy(_) | Fault::NoProfile | Fault::Opening | Fault::NoEntry =>
-                2,
+            Fault::Misfit | Fault::Policy(_) | Fault::NoProfile | Fault::Opening => 2,
+            Fault::NoEntry | Fault::OwnPolicy => 2,
             Fault::TooLong => 1,
             Fault::NoMemory => 4,
         }
@@ -46,6 +48,7 @@ impl Fault {
             Fault::NoProfile => "landtree: no such profile\n",
             Fault::Opening => "landtree: opening call refused\n",
             Fault::NoEntry => "landtree: no such entry\n",
+            Fault::OwnPolicy => "landtree: a section names its own policy, and no file is opened\n",
             Fault::TooLong => "landtree: too long\n",
             Fault::NoMemory => "landtree: no memory\n",
         }

@@ -7,13 +7,14 @@ ghost use Rattle.ll_program.specs.Options.{checked_in};
 ghost use Rattle.ll_program.specs.declared.conclusion.Conclusion.{Conclusion};
 ghost use Rattle.ll_check.specs.Files.{source_of};
 ghost use Rattle.ll_embed.specs.CheckAnswers.{CheckAnswers, CheckFits, IsCheckTold, MayFailCheck, asked_in};
-ghost use Rattle.ll_embed.specs.CheckAnswers.{form_by, level_given, order_of, policy_given, source_in, text_given};
+ghost use Rattle.ll_embed.specs.CheckAnswers.{check_fault, form_by, level_given, order_of, policy_given};
+ghost use Rattle.ll_embed.specs.CheckAnswers.{source_in, text_given};
 
 use crate::answer::Answer;
 use crate::fault::{Fault, fault_at};
 use crate::own_runner::OwnRunner;
-use ll_check::{CheckInput, DeniedTest, NamedText, Notes, check};
-use ll_program::{CheckOptions, Checked, ReportForm};
+use ll_check::{CheckInput, DeniedTest, FaultyPolicy, NamedText, Notes, check};
+use ll_program::{CheckOptions, Checked, Failure, ReportForm};
 use ll_rights::Abi;
 use ll_rights::limits::TREE_NODES;
 use ll_wire::Header;
@@ -43,6 +44,8 @@ impl Notes for Unnoted {
     }
 
     fn of_denied(&mut self, _header: &Header, _test: &DeniedTest<'_>) {}
+
+    fn of_own_policy(&mut self, _policy: &FaultyPolicy<'_>, _failure: &Failure) {}
 }
 
 fn form_of(form: u32) -> ReportForm
@@ -112,6 +115,16 @@ fn status_of(end: Checked) -> u32
     }
 }
 
+// Returns what the program's failure is here, where no file is opened.
+fn check_fault(failure: Failure) -> Fault
+    ensures { result ≡ check_fault failure }
+{
+    match failure {
+        Failure::File => Fault::OwnPolicy,
+        other => fault_at(other),
+    }
+}
+
 // Returns the report, or what is printed of a wrong line.
 fn told_of(end: Checked, report: Vec<u8>, printed: Vec<u8>) -> Vec<u8>
     ensures { end ≢ Checked.BadLine → result ≡ report }
@@ -162,6 +175,7 @@ impl<'a> CheckGiven<'a> {
             quiet: self.form == 1,
             verbose: self.form == 2,
             form: Some(form_of(self.form)),
+            schedule: false,
         };
         if options.fit() {
             Ok(options)
@@ -201,6 +215,7 @@ impl<'a> CheckGiven<'a> {
         let input = CheckInput {
             options: &options,
             policy: self.policy,
+            policies: &[],
             files: from_ref(&file),
         };
         let (mut report, mut printed) = (Vec::new(alloc), Vec::new(alloc));
@@ -217,7 +232,7 @@ impl<'a> CheckGiven<'a> {
                 status: status_of(end),
                 text: told_of(end, report, printed),
             }),
-            Err(failure) => Err(fault_at(failure)),
+            Err(failure) => Err(check_fault(failure)),
         }
     }
 

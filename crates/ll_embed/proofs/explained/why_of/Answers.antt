@@ -10,13 +10,13 @@ use Rattle.ll_embed.specs.declared.fault.Fault.{Fault}
 use Rattle.ll_embed.proofs.Questioned.{handed_on, no_command, no_why, not_opened}
 use Rattle.ll_embed.proofs.explained.why_of.Goals as goal
 
-pub told_of_setup-requires-clause-before : goal.told_of_setup-requires-clause-before
-told_of_setup-requires-clause-before c =
+pub told_of_setup-told-requires-clause-before : goal.told_of_setup-told-requires-clause-before
+told_of_setup-told-requires-clause-before c =
     let told = c.in-Ok.ensures.calls in
     subst AreOthers (sym c.as_slice.ensures.value) (others told.0 c.in-Ok.calls.before.items told.3)
 
-pub told_of_setup-requires-clause-call : goal.told_of_setup-requires-clause-call
-told_of_setup-requires-clause-call c = no_connect c.in-Ok.calls.last c.in-Ok.ensures.calls.4.is_call
+pub told_of_setup-told-requires-clause-call : goal.told_of_setup-told-requires-clause-call
+told_of_setup-told-requires-clause-call c = no_connect c.in-Ok.calls.last c.in-Ok.ensures.calls.4.is_call
 
 pub returns-in_err-setup-clause-fault : goal.returns-in_err-setup-clause-fault
 returns-in_err-setup-clause-fault c =
@@ -32,11 +32,11 @@ returns-in-Err-clause-fault c =
     subst (LacksWhy o commands) (sym c.of_lines.ensures)
     (no_command o commands c.in-Err.failure c.in-Err.ensures.failure c.in-Err.ensures.bad)
 
-pub returns-in-Ok-told_of_setup-clause-told : goal.returns-in-Ok-told_of_setup-clause-told
-returns-in-Ok-told_of_setup-clause-told c =
+pub returns-in-Ok-told-clause-told : goal.returns-in-Ok-told-clause-told
+returns-in-Ok-told-clause-told c =
     let setup = c.in_ok-setup.setup in
     let calls = c.in-Ok.ensures.calls in
-    let told = c.in-Ok-told_of_setup.ensures.told in (
+    let told = c.in-Ok-told.ensures.told in (
       calls.0,
       calls.1,
       c.in_ok-setup.ensures.asked,
@@ -58,9 +58,9 @@ returns-in-Ok-told_of_setup-clause-told c =
       refl,
     )
 
-pub returns-clause-fault : goal.returns-clause-fault
-returns-clause-fault c =
+pub returns-in-Err-told-clause-fault : goal.returns-in-Err-told-clause-fault
+returns-in-Err-told-clause-fault c =
     let o = profile_order_in c.args.given.now in
     subst (λ (fault : Fault). LacksWhy o c.args.commands.now (Tree fault)) (sym c.fault_at.ensures)
-    (not_opened o c.in_ok-setup.setup c.in-Err-told_of_setup.failure c.in_ok-setup.ensures.setup
-    c.in-Err-told_of_setup.ensures.failure)
+    (not_opened o c.in_ok-setup.setup c.in-Err-told.failure c.in_ok-setup.ensures.setup
+    c.in-Err-told.ensures.failure)

@@ -1,4 +1,4 @@
-use Rattle.std.proofs.Common.{◌∙◌, ◌∷◌, [], ℕ, ap, map, subst, sym}
+use Rattle.std.proofs.Common.{◌∙◌, ◌∷◌, [], ℕ, ap, map, refl, subst, sym}
 use Rattle.std.specs.declared.alloc.Global.{Global}
 use Rattle.std.specs.declared.vec.Vec.{Vec}
 use Rattle.ll_program.specs.Options.{checked_in}
@@ -10,15 +10,17 @@ use Rattle.ll_embed.proofs.file_check.CheckGiven.checked.Goals as goal
 
 pub returns-in-Ok-check-clause-told : goal.returns-in-Ok-check-clause-told
 returns-in-Ok-check-clause-told c =
-    is_told (asked_in c.args.self.now) (checked_in c.in-Ok.options) (map source_of c.from_ref.result.now)
+    is_told (asked_in c.args.self.now) (checked_in c.in-Ok.options) [] (map source_of c.from_ref.result.now)
     c.in-Ok-check.end c.new-report.result.items c.check.new.out.items c.told_of.result.items c.status_of.result
-    c.in-Ok.ensures.fits c.in-Ok.ensures.options
+    c.in-Ok.ensures.fits c.in-Ok.ensures.options refl
     (ap (map source_of) c.from_ref.ensures.value ∙ ap (λ (s : Source). s ∷ []) c.in-Ok-file.ensures.file)
     c.new-report.ensures.items c.in-Ok-check.ensures.checked c.status_of.ensures
     (λ other. ap (λ (v : Vec ℕ Global). v.items) (c.told_of.ensures other))
 
 pub returns-clause-fault : goal.returns-clause-fault
 returns-clause-fault c =
-    subst (λ (fault : Fault). MayFailCheck (asked_in c.args.self.now) fault) (sym c.fault_at.ensures)
-    (fails (asked_in c.args.self.now) (checked_in c.in-Ok.options) c.in-Err-check.failure c.in-Ok.ensures.fits
-    c.in-Ok.ensures.options c.in-Err-check.ensures.failure)
+    subst (λ (fault : Fault). MayFailCheck (asked_in c.args.self.now) fault) (sym c.check_fault.ensures)
+    (fails (asked_in c.args.self.now) (checked_in c.in-Ok.options) [] (map source_of c.from_ref.result.now)
+    c.in-Err-check.failure c.in-Ok.ensures.fits c.in-Ok.ensures.options refl
+    (ap (map source_of) c.from_ref.ensures.value ∙ ap (λ (s : Source). s ∷ []) c.in-Ok-file.ensures.file)
+    c.in-Err-check.ensures.failure)
