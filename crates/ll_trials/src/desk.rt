@@ -1,16 +1,17 @@
 //! A tree with one client and its child. The client's walk creates a directory, with two slots lent.
 
-ghost use Rattle.std.specs.Prelude.{◌≡◌, true};
+ghost use Rattle.std.specs.Prelude.{◌≡◌, IsTrue, None, true};
 
 use crate::calls::target;
 use ll_client::{
-    Account, Blank, Client, Desk, Leaving, Left, Locked, Opened, Rider, Shape, Tie, open,
+    Account, Blank, Client, Desk, Leaving, Left, Locked, Opened, Rider, Shape, Tie, close, open,
 };
 use ll_journal::{Next, Progress};
 use ll_rights::{Abi, Kind};
 use ll_seq::{Call, ROOT, Reply, Rules};
 use std::alloc::Global;
 use std::marker::Brand;
+use std::sync::Wait;
 
 const RULES: Rules = Rules {
     abi: Abi::NEWEST,
@@ -47,7 +48,7 @@ fn ends_with<N: Shape>(
     }
 }
 
-/// Whether the directory is created.
+/// Whether the directory is created. The client has no walk under way then.
 fn makes<N: Shape>(
     alloc: Global,
     tie: &Tie<N, Account>,
@@ -55,23 +56,21 @@ fn makes<N: Shape>(
     me: &mut Rider<N>,
     root: &mut Locked<N>,
     spare: &mut Locked<N>,
-) -> bool {
+) -> bool
+    ensures { IsTrue result → me.new.doing ≡ None }
+{
     if !sets_out(alloc, tie, desk, me) || desk.enter(tie, me, root) != Progress::Stands(ROOT) {
         return false;
     }
     let is_told = ends_with(tie, desk, me, root, spare.number());
     let left = desk.leave_2(tie, me, root, spare, Leaving::Commit);
-    let is_made = matches!(&left, Left::Answered(Reply::Done));
-    drop(left);
-    is_told && is_made && spare.inode() == ROOT + 1
-}
-
-/// Whether the client spawns.
-fn spawns<N: Shape>(tie: &Tie<N, Account>, desk: &mut Desk<N>, me: &mut Client<N>) -> bool {
-    let child = desk.spawn(tie, me);
-    let is_there = child.is_ok();
-    drop(child);
-    is_there
+    match left {
+        Left::Answered(Reply::Done) => is_told && spare.inode() == ROOT + 1,
+        other => {
+            drop(other);
+            false
+        }
+    }
 }
 
 /// Compiles only if the value may go to another thread.
@@ -79,8 +78,9 @@ fn sent<T: Send>(value: &T) {
     let _ = value;
 }
 
-/// Opens a tree. Its last free slot is the first client's spare.
-fn begins<N: Shape + Send>(alloc: Global, blank: Blank<Account>) -> bool
+/// Opens a tree. Its last free slot is the first client's spare. Closes it with the client and the child. Waits forever
+/// if the client's walk doesn't end, or the tree doesn't close.
+fn begins<N: Shape + Send>(rt: &impl Wait, alloc: Global, blank: Blank<Account>) -> bool
     requires named { blank ≡ N.table }
     requires slots { N.slots ≡ 128 }
     requires limit { N.limit ≡ 10 }
@@ -96,24 +96,48 @@ fn begins<N: Shape + Send>(alloc: Global, blank: Blank<Account>) -> bool
     else {
         return false;
     };
-    let (Ok(mut me), Some(mut spare)) = (desk.connect(&tie), slots.pop()) else {
+    let Some(mut spare) = slots.pop() else {
+        return false;
+    };
+    let Some(root) = slots.get_mut(0) else {
+        return false;
+    };
+    let Ok(mut clients) = Vec::with_capacity(alloc, 2) else {
+        return false;
+    };
+    let Ok(mut me) = desk.connect(&tie) else {
+        clients.destroy_empty();
         return false;
     };
     sent(&me);
     sent(&spare);
-    let has_child = spawns(&tie, &mut desk, &mut me);
-    let Client { mut rider, .. } = me;
-    let is_made = match slots.get_mut(0) {
-        Some(root) => makes(alloc, &tie, &mut desk, &mut rider, root, &mut spare),
-        None => false,
+    let child = desk.spawn(&tie, &mut me);
+    let Client { mut rider } = me;
+    if !makes(alloc, &tie, &mut desk, &mut rider, root, &mut spare) {
+        for _ in rt.forever() {}
+        unreachable!()
+    }
+    clients.push_reserved(Client { rider });
+    let has_child = match child {
+        Ok(child) => {
+            clients.push_reserved(child);
+            true
+        }
+        Err(_) => false,
     };
-    has_child && is_made
+    match close(&tie, desk, clients) {
+        Ok(history) => has_child && history.entries().len() == 3,
+        Err(_back) => {
+            for _ in rt.forever() {}
+            unreachable!()
+        }
+    }
 }
 
 #[test]
 fn desk(rt: HostRuntime) {
     let is_right = match Blank::new(rt.alloc()) {
-        Ok(blank) => begins::<Brand>(rt.alloc(), blank),
+        Ok(blank) => begins::<Brand>(&rt, rt.alloc(), blank),
         Err(_) => false,
     };
     assert!(rt; is_right);

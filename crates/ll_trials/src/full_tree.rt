@@ -4,6 +4,7 @@ ghost use Rattle.std.specs.Prelude.{◌≡◌, ◌+◌, true};
 ghost use Rattle.ll_rights.specs.declared.limits.TheConstants.{TREE_CLIENTS};
 
 use crate::calls::target;
+use crate::clients::{bring, close};
 use crate::watched::{TrialEnd, end_of_trial};
 use ll_audit::audit;
 use ll_calls::{Refused, Tree};
@@ -133,50 +134,53 @@ fn finds_no_room<N: Shape>(
     are_held && first == Err(Refused::Errno(Errno::ENOSPC)) && is_gone && second.is_ok()
 }
 
-/// Returns the client whose walk was held in its directory, if it then found nothing under the name.
+/// Whether the client's walk was held in its directory, and then found nothing under the name.
 fn walks<N: Shape>(
     rt: &impl Wait,
     alloc: Global,
     tree: &Tree<N, Standing>,
+    me: &mut Client<N>,
     walk: usize,
-) -> Option<Client<N>> {
-    let mut me = tree.connect(rt).ok()?;
-    let path = path_of(alloc, walk, "/none")?;
-    match tree.stat(rt, &mut me, path) {
-        Err(Refused::Errno(Errno::ENOENT)) => Some(me),
-        _ => None,
-    }
-}
-
-/// Whether the tree closes with all clients, and its history is legal and complete.
-fn closes<N: Shape>(
-    alloc: Global,
-    tree: Tree<N, Standing>,
-    maker: Client<N>,
-    others: Vec<Option<Client<N>>>,
 ) -> bool {
-    let mut clients = Vec::new(alloc);
-    if clients.push(maker).is_err() {
-        return false;
-    }
-    for other in others {
-        if let Some(other) = other
-            && clients.push(other).is_err()
-        {
-            return false;
-        }
-    }
-    match tree.close(clients) {
-        Ok(history) => is_whole(alloc, &history),
-        Err(back) => {
-            drop(back);
-            false
-        }
+    match path_of(alloc, walk, "/none") {
+        Some(path) => tree.stat(rt, me, path) == Err(Refused::Errno(Errno::ENOENT)),
+        None => false,
     }
 }
 
+/// Whether the history is legal and complete.
 fn is_whole(alloc: Global, history: &History) -> bool {
     history.entries().len() == ENTRIES && audit(alloc, RULES, NODES, history).is_ok()
+}
+
+/// Whether the maker finds the tree full while the walks of all others are held in it, and these end.
+fn stands<N: Shape + Send + Sync, R: Threads + Wait + Sync>(
+    rt: &R,
+    alloc: Global,
+    tree: &Tree<N, Standing>,
+    maker: &mut Client<N>,
+    others: &mut [Client<N>],
+    flags: &Flags,
+) -> bool {
+    if !furnishes(rt, alloc, tree, maker) {
+        return false;
+    }
+    let ended = AtomicU64::new(0);
+    let (is_right, ()) = join(
+        rt,
+        || finds_no_room(rt, alloc, tree, maker, flags),
+        || thread::for_each_mut(
+            rt,
+            others,
+            WALKS,
+            &|walk, me| {
+                if walks(rt, alloc, tree, me, walk) {
+                    ended.fetch_add(1, Ordering::SeqCst);
+                }
+            },
+        ),
+    );
+    is_right && ended.load(Ordering::SeqCst) == WALKS as u64
 }
 
 fn is_full<N: Shape + Send + Sync, R: Threads + Wait + Sync>(
@@ -185,21 +189,13 @@ fn is_full<N: Shape + Send + Sync, R: Threads + Wait + Sync>(
     tree: Tree<N, Standing>,
     flags: &Flags,
 ) -> bool {
-    let Ok(mut maker) = tree.connect(rt) else {
-        return false;
+    let mut clients = bring(rt, alloc, &tree, WALKS + 1);
+    let is_right = match clients.split_first_mut() {
+        Some((maker, others)) => stands(rt, alloc, &tree, maker, others, flags),
+        None => false,
     };
-    if !furnishes(rt, alloc, &tree, &mut maker) {
-        return false;
-    }
-    let (is_right, others) = join(
-        rt,
-        || finds_no_room(rt, alloc, &tree, &mut maker, flags),
-        || thread::map_indices(rt, alloc, WALKS, &|walk| walks(rt, alloc, &tree, walk)),
-    );
-    match others {
-        Ok(others) => is_right && closes(alloc, tree, maker, others),
-        Err(_) => false,
-    }
+    let history = close(rt, tree, clients);
+    is_right && is_whole(alloc, &history)
 }
 
 fn opens<N: Shape + Send + Sync, R: Threads + Wait + Sync>(

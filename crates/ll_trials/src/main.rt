@@ -22,7 +22,7 @@
 //! | | | `open`, `connect`, `spawn`; `begin`, `enter`, `next_step`, `leave_2`: `desk` |
 //! | ll_journal | | `Journal::new`, `connect`, `client_step`; `begin`, which takes none: `journal` |
 //! | ll_walk | | `Table::open`, `connect`, `call`: `threads` |
-//! | ll_calls | | `Tree::open`, `connect`, `meet`, `close` and calls: `shared_tree` |
+//! | ll_calls | | `Tree::open`, `connect`, `meet`, `close` and calls: `clients`, `shared_tree` |
 //! | ll_session | `run_script` | with devices that fail: `session` |
 //! | ll_steps | `World::new`, `step`, `make` | `World::run`: `steps` |
 //! | | | `read`, `list`, whose replies are copied: `replies` |
@@ -40,12 +40,15 @@
 mod aims;
 #[cfg(test)]
 mod calls;
+mod clients;
 #[cfg(test)]
 mod desk;
 #[cfg(test)]
 mod full_tree;
 #[cfg(test)]
 mod fuse;
+#[cfg(test)]
+mod held_tree;
 #[cfg(test)]
 mod journal;
 #[cfg(test)]
@@ -137,7 +140,6 @@ fn told(rt: &impl Print, ended: Ended) -> u8 {
         Ended::Legal => ("history legal", 0),
         Ended::Illegal => ("history illegal", 1),
         Ended::Miscounted => ("history legal, but not of all calls", 1),
-        Ended::Open => ("the tree didn't close with all its clients", 1),
         Ended::NoMemory => ("out of memory", 70),
     };
     match println!(rt; "{line}") {

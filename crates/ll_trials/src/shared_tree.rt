@@ -5,6 +5,7 @@ ghost use Rattle.std.specs.Prelude.{◌≡◌, ◌+◌, true};
 ghost use Rattle.ll_rights.specs.declared.limits.TheConstants.{TREE_CLIENTS};
 
 use crate::calls::target;
+use crate::clients::{add, bring, close};
 use crate::watched::{TrialEnd, end_of_trial};
 use ll_audit::audit;
 use ll_calls::{Refused, Tree};
@@ -16,8 +17,9 @@ use ll_walk::NoGate;
 use std::alloc::Global;
 use std::marker::Brand;
 use std::sync::Wait;
+use std::sync::atomic::{AtomicU64, Ordering};
 use std::test::*;
-use std::thread::{Threads, join};
+use std::thread::{self, Threads, join};
 
 const RULES: Rules = Rules {
     abi: Abi::NEWEST,
@@ -76,41 +78,51 @@ fn inode_at<N: Shape>(
     }
 }
 
-/// Whether the tree closes with these clients, and its history is legal and has this many entries.
-fn closes<N: Shape>(
-    alloc: Global,
+/// Whether the tree doesn't close with this list. Returns both then, and else waits forever.
+fn stays_open<N: Shape>(
+    rt: &impl Wait,
     tree: Tree<N, NoGate>,
     clients: Vec<Client<N>>,
-    entries: usize,
-) -> bool {
+) -> (Tree<N, NoGate>, Vec<Client<N>>) {
     match tree.close(clients) {
-        Ok(history) => is_legal(alloc, &history) && history.entries().len() == entries,
-        Err(back) => {
-            drop(back);
-            false
+        Ok(_) => {
+            for _ in rt.forever() {}
+            unreachable!()
         }
+        Err(back) => back,
     }
 }
 
-/// Whether a client that has met the maker of a directory finds it, and the tree closes with both clients but not with
-/// one.
-fn meet<N: Shape>(rt: &impl Wait, alloc: Global, tree: Tree<N, NoGate>) -> bool {
-    let (Ok(mut one), Ok(mut other)) = (tree.connect(rt), tree.connect(rt)) else {
+/// Whether a client that has met the maker of a directory finds it.
+fn finds<N: Shape>(
+    rt: &impl Wait,
+    alloc: Global,
+    tree: &Tree<N, NoGate>,
+    one: &mut Client<N>,
+    others: &mut [Client<N>],
+) -> bool {
+    let Some(other) = others.first_mut() else {
         return false;
     };
-    let is_made = makes(rt, alloc, &tree, &mut one, Kind::Dir, "/a");
-    tree.meet(rt, &mut one, &mut other);
-    let inode = inode_at(rt, alloc, &tree, &mut other, "/a");
-    let mut clients = Vec::new(alloc);
-    if clients.push(one).is_err() {
-        return false;
+    let is_made = makes(rt, alloc, tree, one, Kind::Dir, "/a");
+    tree.meet(rt, one, other);
+    is_made && inode_at(rt, alloc, tree, other, "/a") == 2
+}
+
+/// Whether a client finds the directory of one that it has met, and the tree closes with both clients but not with one.
+fn meet<N: Shape>(rt: &impl Wait, alloc: Global, tree: Tree<N, NoGate>) -> bool {
+    let mut clients = bring(rt, alloc, &tree, 2);
+    let is_found = match clients.split_first_mut() {
+        Some((one, others)) => finds(rt, alloc, &tree, one, others),
+        None => false,
+    };
+    let other = clients.pop();
+    let (tree, mut clients) = stays_open(rt, tree, clients);
+    if let Some(other) = other {
+        add(rt, &mut clients, other);
     }
-    match tree.close(clients) {
-        Ok(_) => false,
-        Err((tree, mut clients)) => {
-            is_made && inode == 2 && clients.push(other).is_ok() && closes(alloc, tree, clients, 4)
-        }
-    }
+    let history = close(rt, tree, clients);
+    is_found && is_legal(alloc, &history) && history.entries().len() == 4
 }
 
 /// The path of a client's file in the directory.
@@ -163,55 +175,45 @@ fn entries_of(history: &History, client: u64) -> usize {
     count
 }
 
-fn list<N: Shape>(alloc: Global, four: [Client<N>; 4]) -> Option<Vec<Client<N>>> {
-    let mut clients = Vec::new(alloc);
-    for client in four {
-        clients.push(client).ok()?;
+/// Whether four clients in four threads create and move their files.
+fn all_work<N: Shape + Send + Sync, R: Threads + Wait + Sync>(
+    rt: &R,
+    alloc: Global,
+    tree: &Tree<N, NoGate>,
+    four: &mut [Client<N>],
+) -> bool {
+    let Some(maker) = four.first_mut() else {
+        return false;
+    };
+    if !makes(rt, alloc, tree, maker, Kind::Dir, "/d")
+        || !makes(rt, alloc, tree, maker, Kind::Dir, "/e")
+    {
+        return false;
     }
-    Some(clients)
+    let done = AtomicU64::new(0);
+    thread::for_each_mut(
+        rt,
+        four,
+        4,
+        &|i, me| {
+            if works(rt, alloc, tree, me, (i % 4) as u8) {
+                done.fetch_add(1, Ordering::SeqCst);
+            }
+        },
+    );
+    done.load(Ordering::SeqCst) == 4
 }
 
-/// Whether four clients in four threads create and move their files, and each has its entries.
+/// Whether four clients do all their work, and each has its entries.
 fn four_work<N: Shape + Send + Sync, R: Threads + Wait + Sync>(
     rt: &R,
     alloc: Global,
     tree: Tree<N, NoGate>,
 ) -> bool {
-    let (Ok(mut a), Ok(mut b), Ok(mut c), Ok(mut d)) = (
-        tree.connect(rt),
-        tree.connect(rt),
-        tree.connect(rt),
-        tree.connect(rt),
-    ) else {
-        return false;
-    };
-    let is_ready = makes(rt, alloc, &tree, &mut a, Kind::Dir, "/d")
-        && makes(rt, alloc, &tree, &mut a, Kind::Dir, "/e");
-    let (first, second) = join(
-        rt,
-        || {
-            join(
-                rt,
-                || works(rt, alloc, &tree, &mut a, 0),
-                || works(rt, alloc, &tree, &mut b, 1),
-            )
-        },
-        || {
-            join(
-                rt,
-                || works(rt, alloc, &tree, &mut c, 2),
-                || works(rt, alloc, &tree, &mut d, 3),
-            )
-        },
-    );
-    let is_done = is_ready && first.0 && first.1 && second.0 && second.1;
-    let Some(clients) = list(alloc, [a, b, c, d]) else {
-        return false;
-    };
-    match tree.close(clients) {
-        Ok(history) => is_done && is_shared_out(alloc, &history),
-        Err(_) => false,
-    }
+    let mut clients = bring(rt, alloc, &tree, 4);
+    let is_done = all_work(rt, alloc, &tree, clients.as_mut_slice());
+    let history = close(rt, tree, clients);
+    is_done && is_shared_out(alloc, &history)
 }
 
 fn is_shared_out(alloc: Global, history: &History) -> bool {
@@ -305,52 +307,61 @@ fn furnishes<N: Shape>(
 
 /// Whether each open of a confined client is allowed or denied as the path was at that moment. Meanwhile another client
 /// exchanges the directory for one that the first may not read.
+fn both_run<N: Shape + Send + Sync, R: Threads + Wait + Sync>(
+    rt: &R,
+    alloc: Global,
+    tree: &Tree<N, NoGate>,
+    free: &mut Client<N>,
+    others: &mut [Client<N>],
+) -> bool {
+    let Some(confined) = others.first_mut() else {
+        return false;
+    };
+    if !furnishes(rt, alloc, tree, free) || !confines(rt, alloc, tree, confined) {
+        return false;
+    }
+    let (is_moved, (opened, denied)) = join(
+        rt,
+        || exchanges(rt, alloc, tree, free),
+        || reads(rt, alloc, tree, confined),
+    );
+    is_moved && opened <= ROUNDS && denied == ROUNDS - opened
+}
+
 fn race<N: Shape + Send + Sync, R: Threads + Wait + Sync>(
     rt: &R,
     alloc: Global,
     tree: Tree<N, NoGate>,
 ) -> bool {
-    let (Ok(mut free), Ok(mut confined)) = (tree.connect(rt), tree.connect(rt)) else {
-        return false;
+    let mut clients = bring(rt, alloc, &tree, 2);
+    let is_right = match clients.split_first_mut() {
+        Some((free, others)) => both_run(rt, alloc, &tree, free, others),
+        None => false,
     };
-    let is_ready = furnishes(rt, alloc, &tree, &mut free)
-        && confines(rt, alloc, &tree, &mut confined);
-    let (is_moved, (opened, denied)) = join(
-        rt,
-        || exchanges(rt, alloc, &tree, &mut free),
-        || reads(rt, alloc, &tree, &mut confined),
-    );
-    let mut clients = Vec::new(alloc);
-    if clients.push(free).is_err() || clients.push(confined).is_err() {
-        return false;
-    }
-    match tree.close(clients) {
-        Ok(history) => {
-            is_ready
-                && is_moved
-                && opened <= ROUNDS
-                && denied == ROUNDS - opened
-                && is_legal(alloc, &history)
-        }
-        Err(_) => false,
-    }
+    let history = close(rt, tree, clients);
+    is_right && is_legal(alloc, &history)
 }
 
 /// Whether a client that finds no room in the history gets HistoryFull, and the first client, which knew only of its
 /// own entry, catches up with both.
-fn fills<N: Shape>(rt: &impl Wait, tree: Tree<N, NoGate>) -> bool {
-    let (Ok(mut one), Ok(other)) = (tree.connect(rt), tree.connect(rt)) else {
-        return false;
+fn fills<N: Shape>(rt: &impl Wait, alloc: Global, tree: Tree<N, NoGate>) -> bool {
+    let mut clients = bring(rt, alloc, &tree, 2);
+    let is_full = match tree.connect(rt) {
+        Ok(third) => {
+            add(rt, &mut clients, third);
+            false
+        }
+        Err(errno) => errno == Errno::HistoryFull,
     };
-    let third = tree.connect(rt);
-    let is_full = matches!(&third, Err(Errno::HistoryFull));
-    let seen = one.seen();
-    tree.catch_up(rt, &mut one);
-    let is_caught_up = seen == 1 && one.seen() == 2;
-    drop(third);
-    drop(one);
-    drop(other);
-    drop(tree);
+    let is_caught_up = match clients.get_mut(0) {
+        Some(one) => {
+            let seen = one.seen();
+            tree.catch_up(rt, one);
+            seen == 1 && one.seen() == 2
+        }
+        None => false,
+    };
+    drop(close(rt, tree, clients));
     is_full && is_caught_up
 }
 
@@ -374,7 +385,7 @@ fn tries<N: Shape + Send + Sync, R: Threads + Wait + Sync>(
         Trial::Meeting => meet(rt, alloc, tree),
         Trial::FourClients => four_work(rt, alloc, tree),
         Trial::Race => race(rt, alloc, tree),
-        Trial::FullHistory => fills(rt, tree),
+        Trial::FullHistory => fills(rt, alloc, tree),
     }
 }
 

@@ -4,6 +4,7 @@ ghost use Rattle.std.specs.Prelude.{◌≡◌, ◌+◌, true};
 ghost use Rattle.ll_rights.specs.declared.limits.TheConstants.{TREE_CLIENTS};
 
 use crate::aims::TOP;
+use crate::clients::{add, close, come};
 use crate::orders::Orders;
 use crate::random::Random;
 use crate::random_calls::{makes_any, makes_top};
@@ -15,10 +16,12 @@ use ll_client::{Account, Blank, Client, Shape};
 use ll_rights::Abi;
 use ll_rights::limits::HISTORY_ENTRIES;
 use ll_seq::{History, Rules};
+use ll_session::add_all;
 use ll_walk::NoGate;
-use std::alloc::Global;
+use std::alloc::{AllocError, Global};
 use std::marker::Brand;
 use std::sync::Wait;
+use std::sync::atomic::{AtomicU64, Ordering};
 use std::thread::{self, Threads};
 
 const RULES: Rules = Rules {
@@ -40,31 +43,28 @@ pub enum Ended {
     Illegal,
     /// The history is legal, but its entries aren't as many as the replies.
     Miscounted,
-    /// The tree didn't close with all its clients.
-    Open,
     NoMemory,
 }
 
-/// The first client spawns a child. Returns whether the spawn has an entry.
+/// The first client spawns a child, for which the list has room. Returns whether the spawn has an entry.
 fn spawns<N: Shape>(rt: &impl Wait, tree: &Tree<N, NoGate>, clients: &mut Vec<Client<N>>) -> bool {
     let Some(me) = clients.get_mut(0) else {
         return false;
     };
     match tree.spawn(rt, me) {
-        Ok(child) => clients.push(child).is_ok(),
+        Ok(child) => {
+            add(rt, clients, child);
+            true
+        }
         Err(_) => false,
     }
 }
 
 /// Lets the first and the last client of the thread meet.
-fn meet<N: Shape>(rt: &impl Wait, tree: &Tree<N, NoGate>, clients: &mut Vec<Client<N>>) -> bool {
-    let Some(mut last) = clients.pop() else {
-        return false;
-    };
-    if let Some(first) = clients.get_mut(0) {
-        tree.meet(rt, first, &mut last);
+fn meet<N: Shape>(rt: &impl Wait, tree: &Tree<N, NoGate>, clients: &mut Vec<Client<N>>) {
+    if let [first, .., last] = clients.as_mut_slice() {
+        tree.meet(rt, first, last);
     }
-    clients.push(last).is_ok()
 }
 
 /// Makes a call of one of the clients.
@@ -79,9 +79,7 @@ fn makes_one<N: Shape>(
         if clients.len() < 2 {
             return spawns(rt, tree, clients);
         }
-        if !meet(rt, tree, clients) {
-            return false;
-        }
+        meet(rt, tree, clients);
     }
     let chosen = random.below(2) as usize;
     let index = if chosen < clients.len() { chosen } else { 0 };
@@ -91,40 +89,54 @@ fn makes_one<N: Shape>(
     }
 }
 
-/// Runs one thread. Returns its clients after all calls.
-fn thread_clients<N: Shape>(
+/// Makes the calls of one thread with a client of its own. Returns whether all have entries.
+fn makes_all<N: Shape>(
     rt: &impl Wait,
-    alloc: Global,
     tree: &Tree<N, NoGate>,
     orders: Orders,
     watch: &Watch,
     thread: usize,
-) -> Option<Vec<Client<N>>> {
+    clients: &mut Vec<Client<N>>,
+) -> bool {
+    let alloc = *clients.allocator();
     let mut random = Random::new(orders.seed, thread as u64);
-    let mut clients = Vec::new(alloc);
-    let mut client = tree.connect(rt).ok()?;
-    if !makes_top(rt, alloc, tree, &mut client) {
-        return None;
+    if clients.reserve(2).is_err() || !come(rt, tree, clients) {
+        return false;
     }
-    clients.push(client).ok()?;
+    let is_ready = match clients.get_mut(0) {
+        Some(me) => makes_top(rt, alloc, tree, me),
+        None => false,
+    };
+    if !is_ready {
+        return false;
+    }
     for _ in 0..orders.calls {
-        if !makes_one(rt, alloc, tree, &mut clients, &mut random) {
-            return None;
+        if !makes_one(rt, alloc, tree, clients, &mut random) {
+            return false;
         }
         watch.count();
     }
-    Some(clients)
+    true
+}
+
+/// Returns an empty list for each thread.
+fn lists<N: Shape>(alloc: Global, threads: usize) -> Result<Vec<Vec<Client<N>>>, AllocError> {
+    let mut lists = Vec::with_capacity(alloc, threads)?;
+    for _ in 0..threads {
+        lists.push_reserved(Vec::new(alloc));
+    }
+    Ok(lists)
 }
 
 /// Puts all clients into one list.
-fn list<N: Shape>(alloc: Global, threads: Vec<Option<Vec<Client<N>>>>) -> Option<Vec<Client<N>>> {
+fn gather<N: Shape>(rt: &impl Wait, alloc: Global, lists: Vec<Vec<Client<N>>>) -> Vec<Client<N>> {
     let mut all = Vec::new(alloc);
-    for clients in threads {
-        for client in clients? {
-            all.push(client).ok()?;
-        }
+    let mut rest = lists.into_iter();
+    while let Some(clients) = rest.next() {
+        add_all(rt, &mut all, clients);
     }
-    Some(all)
+    rest.destroy_empty();
+    all
 }
 
 fn judged(alloc: Global, orders: Orders, history: &History) -> Ended {
@@ -155,31 +167,30 @@ fn storm<N: Shape + Send + Sync, R: Threads + Wait + Print + Sync>(
     let Ok(tree) = opened else {
         return Ended::NoMemory;
     };
-    let threads = thread::map_indices(
+    let Ok(mut lists) = lists(alloc, orders.threads) else {
+        return Ended::NoMemory;
+    };
+    let starved = AtomicU64::new(0);
+    thread::for_each_mut(
         rt,
-        alloc,
-        orders.threads,
-        &|i| { thread_clients(rt, alloc, &tree, orders, watch, i) },
-    );
-    watch.end_calls();
-    let Ok(threads) = threads else {
-        return Ended::NoMemory;
-    };
-    let Some(clients) = list(alloc, threads) else {
-        return Ended::NoMemory;
-    };
-    match tree.close(clients) {
-        Ok(history) => {
-            if orders.tells {
-                tell(rt, &history);
+        lists.as_mut_slice(),
+        orders.threads.max(1),
+        &|i, clients| {
+            if !makes_all(rt, &tree, orders, watch, i, clients) {
+                starved.store(1, Ordering::SeqCst);
             }
-            judged(alloc, orders, &history)
-        }
-        Err(back) => {
-            drop(back);
-            Ended::Open
-        }
+        },
+    );
+    let clients = gather(rt, alloc, lists);
+    let history = close(rt, tree, clients);
+    watch.end_calls();
+    if starved.load(Ordering::SeqCst) != 0 {
+        return Ended::NoMemory;
     }
+    if orders.tells {
+        tell(rt, &history);
+    }
+    judged(alloc, orders, &history)
 }
 
 /// Runs a storm. Returns how it ends.

@@ -11,7 +11,7 @@ use ll_audit::audit;
 use ll_client::{Account, Blank, Client, Locked, Shape};
 use ll_journal::Made;
 use ll_rights::{Abi, Kind};
-use ll_seq::{Call, Creation, Reply, Rules};
+use ll_seq::{Call, Creation, History, Reply, Rules};
 use ll_walk::{Gate, NoGate, Table};
 use std::alloc::{AllocError, Global};
 use std::marker::Brand;
@@ -69,6 +69,41 @@ impl<N: Shape> Gate<N> for Holding {
     }
 }
 
+/// Returns this many new clients, or fewer if one can't come.
+fn bring<N: Shape, G: Gate<N>>(
+    rt: &impl Wait,
+    alloc: Global,
+    table: &Table<N, G>,
+    count: usize,
+) -> Vec<Client<N>> {
+    let mut clients = Vec::new(alloc);
+    for _ in 0..count {
+        if clients.reserve(1).is_err() {
+            return clients;
+        }
+        match table.connect(rt) {
+            Ok(client) => clients.push_reserved(client),
+            Err(_) => return clients,
+        }
+    }
+    clients
+}
+
+/// Closes the table with all its clients, and returns its history. Waits forever if one is missing.
+fn close<N: Shape, G: Gate<N>>(
+    rt: &impl Wait,
+    table: Table<N, G>,
+    clients: Vec<Client<N>>,
+) -> History {
+    match table.close(clients) {
+        Ok(history) => history,
+        Err(_back) => {
+            for _ in rt.forever() {}
+            unreachable!()
+        }
+    }
+}
+
 fn make(alloc: Global, kind: Kind, path: &str) -> Option<Call> {
     Some(Call::Make(kind, target(alloc, path)?))
 }
@@ -100,9 +135,13 @@ fn inode_at<N: Shape, G: Gate<N>>(
     let Some(path) = target(alloc, path) else {
         return 0;
     };
-    match table.call(rt, me, Call::Stat(path)) {
+    let call = Call::Stat(path);
+    match table.call(rt, me, call) {
         Ok(Made::Replied(Reply::Found(status))) => status.inode,
-        _ => 0,
+        other => {
+            drop(other);
+            0
+        }
     }
 }
 
@@ -112,24 +151,26 @@ fn passes<N: Shape + Send + Sync, R: Threads + Wait + Sync>(
     rt: &R,
     alloc: Global,
     table: &Table<N, Holding>,
+    first: &mut Client<N>,
+    others: &mut [Client<N>],
     flags: &Flags,
 ) -> bool {
-    let (Ok(mut first), Ok(mut second)) = (table.connect(rt), table.connect(rt)) else {
+    let Some(second) = others.first_mut() else {
         return false;
     };
-    if !does(rt, table, &mut first, make(alloc, Kind::Dir, "/a"))
-        || !does(rt, table, &mut first, make(alloc, Kind::Dir, "/b"))
+    if !does(rt, table, first, make(alloc, Kind::Dir, "/a"))
+        || !does(rt, table, first, make(alloc, Kind::Dir, "/b"))
     {
         return false;
     }
-    let inode = inode_at(rt, alloc, table, &mut second, "/a");
+    let inode = inode_at(rt, alloc, table, second, "/a");
     flags.inode.store(inode, Ordering::SeqCst);
     let (is_first_done, is_second_done) = join(
         rt,
-        || does(rt, table, &mut first, make(alloc, Kind::Reg, "/a/x")),
+        || does(rt, table, first, make(alloc, Kind::Reg, "/a/x")),
         || {
             let is_held = waits_for(&flags.is_held);
-            let is_done = does(rt, table, &mut second, make(alloc, Kind::Reg, "/b/x"));
+            let is_done = does(rt, table, second, make(alloc, Kind::Reg, "/b/x"));
             flags.goes_on.store(1, Ordering::SeqCst);
             is_held && is_done
         },
@@ -161,8 +202,12 @@ fn opens_holding<N: Shape + Send + Sync, R: Threads + Wait + Sync>(
         flags: Arc::try_clone(&flags)?,
     };
     let table = Table::<N, Holding>::open(alloc, blank, RULES, NODES, 100, gate)?;
-    let is_right = passes(rt, alloc, &table, &flags);
-    drop(table);
+    let mut clients = bring(rt, alloc, &table, 2);
+    let is_right = match clients.split_first_mut() {
+        Some((first, others)) => passes(rt, alloc, &table, first, others, &flags),
+        None => false,
+    };
+    drop(close(rt, table, clients));
     Ok(is_right)
 }
 
@@ -196,73 +241,66 @@ fn call_of(alloc: Global, thread: usize, is_even: bool) -> Option<Call> {
     }
 }
 
-/// Returns the client of a thread if all its calls got their replies.
+/// Whether all calls of a thread got their replies.
 fn answered<N: Shape>(
     rt: &impl Wait,
     alloc: Global,
     table: &Table<N, NoGate>,
+    me: &mut Client<N>,
     thread: usize,
-) -> Option<Client<N>> {
-    let mut me = table.connect(rt).ok()?;
+) -> bool {
     for round in 0..ROUNDS {
-        let made = table.call(rt, &mut me, call_of(alloc, thread, round % 2 == 0)?);
+        let Some(call) = call_of(alloc, thread, round % 2 == 0) else {
+            return false;
+        };
+        let made = table.call(rt, me, call);
         let is_answered = matches!(&made, Ok(Made::Replied(_)));
         drop(made);
         if !is_answered {
-            return None;
+            return false;
         }
     }
-    Some(me)
+    true
 }
 
-/// Returns a client that has created the directories `/a`, `/b`, `/a/d` and `/b/e`, and the file `/a/f`.
+/// Whether the client creates the directories `/a`, `/b`, `/a/d` and `/b/e`, and the file `/a/f`.
 fn furnishes<N: Shape>(
     rt: &impl Wait,
     alloc: Global,
     table: &Table<N, NoGate>,
-) -> Option<Client<N>> {
-    let mut me = table.connect(rt).ok()?;
-    for path in ["/a", "/b", "/a/d", "/b/e"] {
-        if !does(rt, table, &mut me, make(alloc, Kind::Dir, path)) {
-            return None;
-        }
-    }
-    if does(rt, table, &mut me, make(alloc, Kind::Reg, "/a/f")) {
-        Some(me)
-    } else {
-        None
-    }
-}
-
-/// Whether the tree closes with the clients of the four threads, and its history is legal and complete.
-fn closes<N: Shape>(
-    alloc: Global,
-    table: Table<N, NoGate>,
-    maker: Option<Client<N>>,
-    others: Vec<Option<Client<N>>>,
+    me: &mut Client<N>,
 ) -> bool {
-    let mut clients = Vec::new(alloc);
-    if let Some(maker) = maker
-        && clients.push(maker).is_err()
-    {
-        return false;
-    }
-    for other in others {
-        if let Some(other) = other
-            && clients.push(other).is_err()
-        {
+    for path in ["/a", "/b", "/a/d", "/b/e"] {
+        if !does(rt, table, me, make(alloc, Kind::Dir, path)) {
             return false;
         }
     }
-    match table.close(clients) {
-        Ok(history) => {
-            history.entries().len() == 400_010 && audit(alloc, RULES, NODES, &history).is_ok()
-        }
-        Err(back) => {
-            drop(back);
-            false
-        }
+    does(rt, table, me, make(alloc, Kind::Reg, "/a/f"))
+}
+
+/// Whether all calls of the first client and of a thread for each other one get their replies.
+fn all_move<N: Shape + Send + Sync, R: Threads + Wait + Sync>(
+    rt: &R,
+    alloc: Global,
+    table: &Table<N, NoGate>,
+    maker: &mut Client<N>,
+    others: &mut [Client<N>],
+) -> bool {
+    if !furnishes(rt, alloc, table, maker) {
+        return false;
     }
+    let ended = AtomicU64::new(0);
+    thread::for_each_mut(
+        rt,
+        others,
+        4,
+        &|i, me| {
+            if answered(rt, alloc, table, me, i) {
+                ended.fetch_add(1, Ordering::SeqCst);
+            }
+        },
+    );
+    ended.load(Ordering::SeqCst) == 4
 }
 
 /// Whether all calls of the four threads get their replies, in a legal history.
@@ -277,13 +315,18 @@ fn come_to_ends<N: Shape + Send + Sync, R: Threads + Wait + Sync>(
     requires rules { N.rules ≡ record { abi = 3; copies = true } }
 {
     let table = Table::<N, NoGate>::open(alloc, blank, RULES, NODES, 1_000_000, NoGate)?;
-    let maker = furnishes(rt, alloc, &table);
-    let others = thread::map_indices(rt, alloc, 4, &|i| answered(rt, alloc, &table, i))?;
+    let mut clients = bring(rt, alloc, &table, 5);
+    let are_moved = match clients.split_first_mut() {
+        Some((maker, others)) => all_move(rt, alloc, &table, maker, others),
+        None => false,
+    };
     // No walk is under way, so the journal's lock is free.
     let section = table.section(rt);
     section.by_law();
-    let _root = section.root_slot();
-    Ok(closes(alloc, table, maker, others))
+    drop(section.root_slot());
+    let history = close(rt, table, clients);
+    let is_whole = history.entries().len() == 400_010;
+    Ok(are_moved && is_whole && audit(alloc, RULES, NODES, &history).is_ok())
 }
 
 fn four_move<R: Threads + Wait + Sync>(rt: &R, alloc: Global) -> bool {

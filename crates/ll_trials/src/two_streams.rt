@@ -5,6 +5,7 @@ ghost use Rattle.std.specs.Prelude.{◌≡◌, ◌+◌, None, true};
 ghost use Rattle.ll_rights.specs.declared.limits.TheConstants.{TREE_CLIENTS};
 
 use crate::calls::target;
+use crate::clients::{bring, close};
 use crate::fuse::Source;
 use crate::watched::{TrialEnd, end_of_trial};
 use crossbeam_channel::unbounded;
@@ -184,20 +185,20 @@ fn inode_at<N: Shape>(
     }
 }
 
-/// Returns a client that has created `/a`, in which walks are held from now on, and `/b`.
+/// Whether the client creates `/a`, in which walks are held from now on, and `/b`.
 fn furnishes<N: Shape>(
     rt: &impl Wait,
     alloc: Global,
     tree: &Tree<N, Holding>,
+    me: &mut Client<N>,
     flags: &Flags,
-) -> Option<Client<N>> {
-    let mut me = tree.connect(rt).ok()?;
-    if !makes(rt, alloc, tree, &mut me, "/a") || !makes(rt, alloc, tree, &mut me, "/b") {
-        return None;
+) -> bool {
+    if !makes(rt, alloc, tree, me, "/a") || !makes(rt, alloc, tree, me, "/b") {
+        return false;
     }
-    let inode = inode_at(rt, alloc, tree, &mut me, "/a");
+    let inode = inode_at(rt, alloc, tree, me, "/a");
     flags.inode.store(inode, Ordering::SeqCst);
-    Some(me)
+    true
 }
 
 /// Serves both streams with two threads. Returns what is left of them.
@@ -227,30 +228,30 @@ fn serve_both<N: Shape + Send + Sync, R: Threads + Wait + Sync>(
     serve_streams(rt, alloc, &host, streams, &watch, 2, 2).ok()
 }
 
-/// Whether the tree closes with all clients, and its history is legal and complete.
-fn closes<N: Shape>(
-    rt: &impl Wait,
+/// Serves both streams beside a client of its own. Returns all clients, and whether both streams were served.
+fn all_come<N: Shape + Send + Sync, R: Threads + Wait + Sync>(
+    rt: &R,
     alloc: Global,
-    tree: Tree<N, Holding>,
-    maker: Client<N>,
-    rooms: Vec<Vec<Served<N, Source<'static>, Paper>>>,
-) -> bool {
-    let mut clients = Vec::new(alloc);
-    if clients.push(maker).is_err() {
-        return false;
+    tree: &Tree<N, Holding>,
+    flags: &Arc<Flags, Global>,
+) -> (Vec<Client<N>>, bool)
+    requires limit { N.limit ≡ 100 }
+{
+    let mut clients = bring(rt, alloc, tree, 1);
+    let is_furnished = match clients.get_mut(0) {
+        Some(me) => furnishes(rt, alloc, tree, me, flags),
+        None => false,
+    };
+    if !is_furnished {
+        return (clients, false);
     }
+    let Some(rooms) = serve_both(rt, alloc, tree, flags) else {
+        return (clients, false);
+    };
     let mut others = Vec::new(alloc);
     gather(rt, &mut others, rooms);
     add_all(rt, &mut clients, others);
-    match tree.close(clients) {
-        Ok(history) => {
-            history.entries().len() == 9 && audit(alloc, RULES, NODES, &history).is_ok()
-        }
-        Err(back) => {
-            drop(back);
-            false
-        }
-    }
+    (clients, true)
 }
 
 /// Whether both streams got their replies.
@@ -277,10 +278,10 @@ fn both_are_answered<N: Shape + Send + Sync, R: Threads + Wait + Sync>(
         flags: Arc::try_clone(&flags).ok()?,
     };
     let tree = Tree::<N, Holding>::open(alloc, blank, RULES, NODES, ENTRIES, gate).ok()?;
-    let maker = furnishes(rt, alloc, &tree, &flags)?;
-    let rooms = serve_both(rt, alloc, &tree, &flags)?;
-    let is_closed = closes(rt, alloc, tree, maker, rooms);
-    Some(is_closed && flags.right.load(Ordering::SeqCst) == 2)
+    let (clients, are_served) = all_come(rt, alloc, &tree, &flags);
+    let history = close(rt, tree, clients);
+    let is_right = flags.right.load(Ordering::SeqCst) == 2 && history.entries().len() == 9;
+    Some(are_served && is_right && audit(alloc, RULES, NODES, &history).is_ok())
 }
 
 fn serves_both<R: Threads + Wait + Sync>(rt: &R, alloc: Global) -> bool {

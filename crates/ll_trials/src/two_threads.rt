@@ -3,7 +3,8 @@
 ghost use Rattle.std.specs.Prelude.{◌≡◌, true};
 
 use crate::calls::target;
-use ll_calls::{Account, Blank, NoGate, Refused, Shape, Tree};
+use crate::clients::{bring, close};
+use ll_calls::{Account, Blank, Client, NoGate, Refused, Shape, Tree};
 use ll_rights::{Abi, Access, Errno, Kind};
 use ll_seq::Rules;
 use std::alloc::Global;
@@ -16,6 +17,29 @@ use std::thread::{Threads, join};
 type Answers = (Result<(), Refused>, Result<(), Refused>);
 
 /// A free client creates `/log`, while another one, which may create nothing, tries to create `/tmp`.
+fn both_make<N: Shape + Send + Sync, R: Threads + Wait + Sync>(
+    rt: &R,
+    alloc: Global,
+    tree: &Tree<N, NoGate>,
+    free: &mut Client<N>,
+    others: &mut [Client<N>],
+) -> Result<Answers, Refused> {
+    let Some(confined) = others.first_mut() else {
+        return Err(Refused::Errno(Errno::NoMemory));
+    };
+    let (Some(log), Some(tmp)) = (target(alloc, "/log"), target(alloc, "/tmp")) else {
+        return Err(Refused::Errno(Errno::NoMemory));
+    };
+    let layer = tree.ruleset(rt, confined, Access::ALL)?;
+    tree.confine(rt, confined, layer)?;
+    Ok(join(
+        rt,
+        || tree.make(rt, free, Kind::Dir, log),
+        || tree.make(rt, confined, Kind::Dir, tmp),
+    ))
+}
+
+/// Opens a tree for two clients, and closes it with both.
 fn two_threads<N: Shape + Send + Sync, R: Threads + Wait + Sync>(
     rt: &R,
     alloc: Global,
@@ -31,17 +55,13 @@ fn two_threads<N: Shape + Send + Sync, R: Threads + Wait + Sync>(
         copies: true,
     };
     let tree = Tree::<N, NoGate>::open(alloc, blank, rules, 64, 100, NoGate)?;
-    let (mut free, mut confined) = (tree.connect(rt)?, tree.connect(rt)?);
-    let (Some(log), Some(tmp)) = (target(alloc, "/log"), target(alloc, "/tmp")) else {
-        return Err(Refused::Errno(Errno::NoMemory));
+    let mut clients = bring(rt, alloc, &tree, 2);
+    let answers = match clients.split_first_mut() {
+        Some((free, others)) => both_make(rt, alloc, &tree, free, others),
+        None => Err(Refused::Errno(Errno::NoMemory)),
     };
-    let layer = tree.ruleset(rt, &mut confined, Access::ALL)?;
-    tree.confine(rt, &mut confined, layer)?;
-    Ok(join(
-        rt,
-        || tree.make(rt, &mut free, Kind::Dir, log),
-        || tree.make(rt, &mut confined, Kind::Dir, tmp),
-    ))
+    drop(close(rt, tree, clients));
+    answers
 }
 
 /// Whether the refusal has this text.
