@@ -15,6 +15,7 @@ import gc
 import itertools
 import os
 import pickle
+import random
 import re
 import signal
 import socket
@@ -58,8 +59,11 @@ def run(**options):
 
 
 def free_port():
-    with socket.create_server(("127.0.0.1", 0)) as it:
-        return it.getsockname()[1]
+    """A port that nobody has. It lies below those that the system gives to whoever connects, so it stays free."""
+    for port in random.sample(range(20_000, 32_000), 100):
+        with contextlib.suppress(OSError), socket.create_server(("127.0.0.1", port)):
+            return port
+    raise OSError("no port is free")
 
 
 class Server:

@@ -185,9 +185,12 @@ class Commands:
         """Explains an entry of a saved history. Entries count from 1."""
         return why_of(self.run("why", "--", os.fspath(history), str(entry)))
 
-    def check(self, files: Iterable[File], policy: Optional[File] = None, profile: Optional[str] = None) -> Checked:
-        """Runs files of checks under a profile, under no layer, or without a policy. No test that fails raises."""
-        words = [f"--policy={os.fspath(policy)}"] if policy is not None else []
+    def check(
+        self, files: Iterable[File], policy: Optional[File] = None, profile: Optional[str] = None, steps: bool = False
+    ) -> Checked:
+        """Runs files of checks under a profile, no layer or no policy, or schedules. No test that fails raises."""
+        words = ["--schedule"] if steps else []
+        words += [f"--policy={os.fspath(policy)}"] if policy is not None else []
         words += [f"--profile={profile}"] if profile is not None else []
         ended = self.ended("check", "--as=json", *words, "--", *(os.fspath(it) for it in files))
         if ended.returncode not in (0, 3) or not ended.stdout:

@@ -50,6 +50,17 @@ class Results(Case):
         failure = Failure(str(file), 3, "stat /f", "neither refused nor denied", "refused 3 ENOENT", "one")
         self.assertEqual(self.commands.check([file]).failures, [failure])
 
+    def test_a_policy_of_its_own(self):
+        self.put("own.toml", "version = 1\n[[node]]\npath = \"/f\"\nkind = \"reg\"\n[profile.no]\n")
+        file = self.put("f.check", "@policy own.toml no\nstat /f\n")
+        self.assertTrue(self.commands.check([file]).is_well)
+
+    def test_a_schedule(self):
+        file = self.put("f.schedule", "connect\n@1 begin stat / = begun\n@1 commit = reply ok\n")
+        failure = Failure(str(file), 3, "@1 commit", "reply ok", "NotNow")
+        checked = self.commands.check([file], steps=True)
+        self.assertEqual((checked.passed, checked.failed, checked.failures), (2, 1, [failure]))
+
     def test_no_test(self):
         checked = self.commands.check([self.put("none.check")], POLICY, "build")
         self.assertFalse(checked.is_well)
