@@ -41,7 +41,7 @@ _landtree() {
     rights) options="--policy --profile --all-profiles --diff --nodes --layers --as --explain --terse --help" ;;
     why) options="--policy --profile --nodes --as --explain --terse --help" ;;
     learn) options="--policy --history --client --name --never --beneath --most --nodes --explain --terse --help" ;;
-    check) options="--nodes --abi --policy --profile --quiet --verbose --as --explain --terse --help" ;;
+    check) options="--nodes --abi --policy --profile --quiet --verbose --as --schedule --explain --terse --help" ;;
     serve)
         options="--port --workers --connections --idle --room --log --nodes --abi --history --policy --profile --save --explain --terse --help"
         ;;
