@@ -2,6 +2,7 @@
 
 import contextlib
 import os
+import random
 import re
 import socket
 import struct
@@ -22,8 +23,11 @@ LONGEST = 120
 
 
 def free_port():
-    with socket.create_server((HOST, 0)) as it:
-        return it.getsockname()[1]
+    """A port that nobody has. It lies below those that the system gives to whoever connects, so it stays free."""
+    for port in random.sample(range(20_000, 32_000), 100):
+        with contextlib.suppress(OSError), socket.create_server((HOST, port)):
+            return port
+    raise Differs("no port is free")
 
 
 class Server:
