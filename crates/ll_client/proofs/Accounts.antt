@@ -111,6 +111,7 @@ slots_out k x m n was others (j ∷ ks) out =
 
 pub slot_goes : (b : Book) (k : ℕ) (x : Account) (m n : Map nat_cmp Account) → Took b (3 * k) x m n → SlotGoes k m n
 slot_goes b k x m n t = record {
+  clients = λ d. t.others (3 * d + 1) (λ e. omega (arith, e));
   out = λ ks out. let rest = slots_out k x m n t.was t.others ks out
       in ((t.gone, rest.0), rest.1);
 }
@@ -154,9 +155,6 @@ only_wants c m n others = record {
   out = still_out m n (λ k. others (3 * k) (λ e. omega (arith, e)));
   clients = λ d. others (3 * d + 1) (λ e. omega (arith, e));
 }
-
-pub same_wants : (m : Map nat_cmp Account) → OnlyWants m m
-same_wants m = record { out = λ ks out. out; clients = λ d. refl }
 
 -- a client went, and then something happened to its wants
 pub goes_with : (c : ℕ) (m n o : Map nat_cmp Account) → ClientGoes c m n → OnlyWants n o → ClientGoes c m o

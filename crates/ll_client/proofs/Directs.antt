@@ -2,13 +2,12 @@
 use Rattle.std.specs.Prelude.{◌≡◌, ◌≢◌, ℕ, ◌≤◌, List, [], ◌∷◌, ◌++◌, length, Option, Some, None, Result, Ok, Err, IfOk}
 use Rattle.std.specs.Prelude.{OnErr}
 use Rattle.std.specs.Prelude.{Bool, true, false, refl, unwrap_or, if◌then◌else◌, ◌&&◌, ◌||◌, not, is_none}
-use Rattle.std.proofs.Common.{sym, subst, ap, ◌∙◌, arith, inl, inr}
+use Rattle.std.proofs.Common.{sym, subst, ap, ◌∙◌, arith}
 use Rattle.ll_seq.specs.Memory.{MayStarve, takes_memory}
 use Rattle.ll_seq.specs.Passed.{has_path}
 use Rattle.ll_rights.specs.Map.{insert}
 use Rattle.ll_seq.specs.Step.{client_of}
 use Rattle.ll_seq.specs.declared.call.Call.{Call}
-use Rattle.ll_seq.specs.declared.reply.Reply.{Reply}
 use Rattle.ll_laws.proofs.Chains.{same_Some}
 use Rattle.ll_laws.specs.declared.step.Step.{Step}
 use Rattle.ll_laws.specs.declared.step.Step.TheVariants.{Begin, Join}

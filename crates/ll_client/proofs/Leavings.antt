@@ -1,6 +1,6 @@
 -- What comes of a walk that is left: of the tree, and of its client.
-use Rattle.std.specs.Prelude.{◌≡◌, ◌≢◌, ℕ, ◌+◌, ◌≤◌, Bool, true, false, cond, List, [], ◌∷◌, ◌++◌, length}
-use Rattle.std.specs.Prelude.{Option, Some, None, unwrap_or, option_map, option_and_then, refl}
+use Rattle.std.specs.Prelude.{◌≡◌, ◌≢◌, ℕ, ◌+◌, ◌≤◌, true, false, List, [], ◌∷◌, ◌++◌, length}
+use Rattle.std.specs.Prelude.{Option, Some, None, option_map, refl}
 use Rattle.std.specs.Cmp.{nat_cmp_total}
 use Rattle.std.specs.FinMap.{nat_cmp-IsAntisymmetric}
 use Rattle.std.proofs.Common.{sym, subst, ap, ◌∙◌, inl, inr, arith}
@@ -19,15 +19,9 @@ use Rattle.ll_laws.specs.Walk.{Walk}
 use Rattle.ll_laws.specs.World as world
 use Rattle.ll_laws.specs.World.{World, advance, is_full, restart, shown, without_walk, next_number}
 use Rattle.ll_laws.specs.Sound.{IsSound}
-use Rattle.ll_laws.proofs.Shapes.{restarted}
 use Rattle.ll_laws.proofs.SoundSteps.{sound_ended}
 use Rattle.ll_journal.specs.Book.{Book}
-use Rattle.ll_journal.specs.Steps.{Does}
 use Rattle.ll_journal.specs.Starving.{Starves}
-use Rattle.ll_journal.specs.WalkEnds.{Ends}
-use Rattle.ll_journal.specs.declared.progress.Ending.{Ending}
-use Rattle.ll_journal.specs.declared.progress.Ending.TheVariants as ending
-use Rattle.ll_journal.specs.declared.progress.Progress as told
 use Rattle.ll_journal.specs.declared.progress.Progress.TheVariants as tells
 use Rattle.ll_journal.proofs.Starved.{starved_walk}
 use Rattle.ll_client.specs.declared.account.Numbered.{Numbered}
@@ -38,68 +32,13 @@ use Rattle.ll_client.specs.declared.left.Left.{Left}
 use Rattle.ll_client.specs.declared.left.Left.TheVariants as left
 use Rattle.ll_client.specs.Entries.{doing_of, knows, numbered, part_of, part_from}
 use Rattle.ll_client.specs.Gains.{Goes, Leaves, Told}
-use Rattle.ll_client.specs.Hands.{ended_as, restarted_as, seen_of, starved_if, starves_left, with_starved}
+use Rattle.ll_client.specs.Hands.{seen_of, starved_if, starves_left, with_starved}
 use Rattle.ll_client.specs.Replies.{Fits, success}
 use Rattle.ll_client.proofs.Replies.{step_fits}
 use Rattle.ll_client.proofs.Accounts.{IsClient, Moved}
 use Rattle.ll_client.proofs.Orders.{InOrder}
 use Rattle.ll_laws.proofs.StepGrowth.{Grown, Went, asked, client_in, doing_after, entry_of, never_full, gone, went}
 use Rattle.ll_client.proofs.Desks.{Steps, does_goes, knows_same, part_mine, stepped, stood}
-
--- ---- what the journal tells
-
-pub leaves_ended : (b b' : Book) (c : ℕ) (e : Ending) → Ends b c e b' → Leaves Commit b c (ended_as e) b'
-leaves_ended b b' c ending.NotNow d = d
-leaves_ended b b' c ending.Astray d = d
-leaves_ended b b' c (ending.Replied reply) d = d
-leaves_ended b b' c ending.HistoryFull d = d
-leaves_ended b b' c ending.NoMemory d = d
-
-pub astray_ended : (e : Ending) → ended_as e ≡ left.Astray → e ≡ ending.Astray
-astray_ended ending.NotNow f = absurd (cc f)
-astray_ended ending.Astray f = refl
-astray_ended (ending.Replied reply) f = absurd (cc f)
-astray_ended ending.HistoryFull f = absurd (cc f)
-astray_ended ending.NoMemory f = absurd (cc f)
-
--- a restart neither stands nor forks
-abbrev may_restart : world.Outcome → Bool
-may_restart world.NotNow = true
-may_restart world.Restarted = true
-may_restart _ = false
-
-restarts : (w : World) (c : ℕ) → may_restart (advance w (steps.Restart c)).0 ≡ true
-restarts w c = by (get w.walks c)
-  where
-    tells_of : Option (world.Outcome × World) → world.Outcome
-    tells_of o = let r : world.Outcome × World = unwrap_or o (world.NotNow, w) in r.0
-
-    on : (walk : Walk) (b : Bool)
-        → may_restart (tells_of (cond b (Some (world.Restarted, restarted w c walk)) None)) ≡ true
-    on walk true = refl
-    on walk false = refl
-
-    by : (o : Option Walk) → may_restart (tells_of (option_and_then (restart w c) o)) ≡ true
-    by None = refl
-    by (Some walk) = on walk walk.stale
-
-no_other : (w v : World) (c : ℕ) (o : world.Outcome) → advance w (steps.Restart c) ≡ (o, v) → may_restart o ≡ false → ⊥
-no_other w v c o e f = cc (sym (restarts w c) ∙ ap (λ (p : world.Outcome × World). may_restart p.0) e ∙ f)
-
-pub leaves_restarted : (b b' : Book) (c : ℕ) (o : told.Progress) → Does b (steps.Restart c) o b'
-    → Leaves Restart b c (restarted_as o) b'
-leaves_restarted b b' c tells.NotNow d = d
-leaves_restarted b b' c tells.Astray d = d
-leaves_restarted b b' c tells.Restarted d = d
-leaves_restarted b b' c (tells.Stands inode) d = absurd (no_other b.world b'.world c (world.Stands inode) d refl)
-leaves_restarted b b' c tells.Forked d = absurd (no_other b.world b'.world c world.Forked d refl)
-
-pub astray_restarted : (o : told.Progress) → restarted_as o ≡ left.Astray → o ≡ tells.Astray
-astray_restarted tells.NotNow f = absurd (cc f)
-astray_restarted tells.Astray f = refl
-astray_restarted tells.Restarted f = absurd (cc f)
-astray_restarted (tells.Stands inode) f = absurd (cc f)
-astray_restarted tells.Forked f = absurd (cc f)
 
 -- ---- of the tree
 

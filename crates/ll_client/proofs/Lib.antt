@@ -3,6 +3,7 @@ pub mod AllClients
 pub mod Desks
 pub mod Directs
 pub mod Leavings
+pub mod Lendings
 pub mod NewDesks
 pub mod Newcomers
 pub mod Orders

@@ -1,14 +1,12 @@
 -- A client that comes, by a connect or as a child: before it nothing is known of its number, and then it is there.
 use Rattle.std.specs.Prelude.{◌≡◌, ◌≢◌, ◌⊎◌, ℕ, ◌+◌, ◌*◌, ◌<◌, ◌≤◌, Bool, true, false, cond, not, List, [], ◌∷◌, ◌++◌}
-use Rattle.std.specs.Prelude.{map}
-use Rattle.std.specs.Prelude.{length, Option, Some, None, is_some, option_map, nat_le, Result, Ok, Err, IfOk, IfErr}
-use Rattle.std.specs.Prelude.{OnErr}
-use Rattle.std.specs.Prelude.{unwrap_or, ◌&&◌, refl}
+use Rattle.std.specs.Prelude.{map, length, Option, Some, None, is_some, option_map, nat_le, Result, Ok, Err, IfOk}
+use Rattle.std.specs.Prelude.{IfErr, OnErr, unwrap_or, ◌&&◌, if◌then◌else◌, refl}
 use Rattle.std.specs.Ordering.{nat_cmp}
 use Rattle.std.specs.Cmp.{nat_cmp_total}
 use Rattle.std.specs.FinMap.{nat_cmp-IsAntisymmetric}
 use Rattle.std.proofs.Common.{sym, subst, ap, ◌∙◌, inl, inr, arith}
-use Rattle.std.proofs.lemmas.Bool.{false≢true, leb-false, ne_eqb}
+use Rattle.std.proofs.lemmas.Bool.{false≢true, leb-false, leb-true, ne_eqb}
 use Rattle.std.proofs.lemmas.List.{length-append}
 use Rattle.ll_rights.specs.declared.errno.Errno.{Errno}
 use Rattle.ll_rights.specs.declared.errno.Errno.TheVariants as errnos
@@ -34,7 +32,7 @@ use Rattle.ll_laws.specs.declared.step.Step.TheVariants.{ClientStep, Join}
 use Rattle.ll_laws.specs.Walk.{Walk}
 use Rattle.ll_laws.specs.World as world
 use Rattle.ll_laws.specs.World.{World, Outcome, advance, answered, is_alone, is_full, is_idle, next_number}
-use Rattle.ll_laws.specs.World.{reply_to, shown}
+use Rattle.ll_laws.specs.World.{joined, reply_to, shown}
 use Rattle.ll_laws.specs.Walks.{AreValid}
 use Rattle.ll_laws.proofs.OneCall.{unused}
 use Rattle.ll_journal.specs.Book.{Book}
@@ -47,7 +45,7 @@ use Rattle.ll_client.specs.declared.account.Account.{Account}
 use Rattle.ll_client.specs.declared.account.Account.TheVariants.{Slot, Client, Wants}
 use Rattle.ll_client.specs.declared.account.Numbered.{Numbered}
 use Rattle.ll_client.specs.declared.account.Starved.{Starved}
-use Rattle.ll_client.specs.Coming.{HasNoPlace, spawn_made}
+use Rattle.ll_client.specs.Coming.{HasNoPlace, is_at_full, knows_full, spawn_made}
 use Rattle.ll_client.specs.Entries.{AreAccounts, IsAccount, IsDesk, Knows, doing_of, knows, numbered, part_from}
 use Rattle.ll_client.specs.Entries.{part_of}
 use Rattle.ll_client.specs.Hands.{HasCome, child_of, child_told, seen_made, starved_if, starves_made}
@@ -55,7 +53,7 @@ use Rattle.ll_client.specs.Gains.{Gains}
 use Rattle.ll_client.proofs.Accounts.{IsClient}
 use Rattle.ll_client.proofs.Directs.{IsDirect, direct_gains, direct_steps}
 use Rattle.ll_client.proofs.Desks.{Steps, part_mine, part_other, stepped}
-use Rattle.ll_laws.proofs.StepGrowth.{Grown, Went, entry_of, went}
+use Rattle.ll_laws.proofs.StepGrowth.{Grown, Went, entry_of, never_full, went}
 use Rattle.ll_client.proofs.Walked.{shown_one}
 use Rattle.ll_laws.proofs.Shapes.{with_entry}
 
@@ -216,13 +214,6 @@ joins slots limit rules b b' number m d is =
           ++ numbered (sym more i) calls.Connect replies.Done ∷ []);
       some = omega (arith, more);
     }
-
--- the history is one entry longer then
-pub joined_longer : (w v : World) (number : ℕ) → advance w Join ≡ (world.Joined number, v)
-    → length v.history ≡ length w.history + 1
-joined_longer w v number is =
-    let g = subst (Went w Join) is (went w Join) in
-    ap length g.3.came ∙ length-append w.history (entry_of number calls.Connect replies.Done ∷ [])
 
 -- ---- as a child
 
@@ -542,3 +533,68 @@ module _ {A E : Type 0} where
   pub if_both : (r : Result A E) (P Q R : A → Type 0) → ((x : A) → P x → Q x → R x) → IfOk r P → IfOk r Q → IfOk r R
   if_both (Ok x) P Q R f h k = f x h k
   if_both (Err e) P Q R f h k = tt
+
+-- ---- refused since the history is full
+
+abbrev reply_in : world.Outcome → Reply
+reply_in (world.Replied reply) = reply
+reply_in it = replies.Done
+
+told_as : (w next : World) (reply told : Reply) → joined w reply next ≡ (world.Replied told, w) → reply ≡ told
+told_as w next replies.Done told e = ap (λ (p : world.Outcome × World). reply_in p.0) e
+told_as w next reply told e = ap (λ (p : world.Outcome × World). reply_in p.0) e
+
+pub full_join : (w : World) → advance w Join ≡ (world.Replied (replies.Refused HistoryFull), w) → is_full w ≡ true
+full_join w = by (is_full w) refl
+  where
+    answer : Bool → Reply × World
+    answer b =
+        let reply = reply_to w (next_number w) calls.Connect in
+        if b then (replies.Refused HistoryFull, w)
+        else (reply, record w { history = w.history ++ entry_of (next_number w) calls.Connect reply ∷ [] })
+
+    by : (b : Bool) → is_full w ≡ b
+        → joined w (answer b).0 (answer b).1 ≡ (world.Replied (replies.Refused HistoryFull), w) → is_full w ≡ true
+    by true e f = e
+    by false e f =
+        let same = told_as w _ _ (replies.Refused HistoryFull) f in
+        absurd (never_full (shown w) (next_number w) calls.Connect (next_number w) (sym same))
+
+-- so all entries that it may have are there
+pub full_length : (w : World) → length w.history ≤ w.limit
+    → advance w Join ≡ (world.Replied (replies.Refused HistoryFull), w) → length w.history ≡ w.limit
+full_length w fits is =
+    let low : w.limit ≤ length w.history = leb-true w.limit (length w.history) (full_join w is) in
+    omega (arith, low, fits)
+
+-- a client after which another one came or didn't come only learns of entries
+pub raised : {C : Type 0} (limit : ℕ) (told : Result C Errno) (k k' : Knows) → k' ≡ knows_full limit told k
+    → k' ≡ record k { seen = k'.seen }
+raised limit told k k' = by (is_at_full told)
+  where
+    by : (b : Bool) → k' ≡ (if b then record k { seen = limit } else k) → k' ≡ record k { seen = k'.seen }
+    by true e = e ∙ ap (λ (x : Knows). record k { seen = x.seen }) (sym e)
+    by false e = e ∙ ap (λ (x : Knows). record k { seen = x.seen }) (sym e)
+
+pub unraised : {C : Type 0} (limit : ℕ) (told : Result C Errno) (k k' : Knows) → is_at_full told ≡ false
+    → k' ≡ knows_full limit told k → k' ≡ k
+unraised limit told k k' room e = e ∙ ap (λ b. if b then record k { seen = limit } else k) room
+
+pub full_told : {C : Type 0} (told : Result C Errno) (b b' : Book) (limit : ℕ) → is_at_full told ≡ true
+    → IfErr told (λ errno. errno ≢ NoMemory → advance b.world Join ≡ (world.Replied (replies.Refused errno), b.world))
+    → OnErr told (b' ≡ b) → length b'.world.history ≤ b'.world.limit → b'.world.limit ≡ limit
+    → length b'.world.history ≡ limit
+full_told (Err HistoryFull) b b' limit full refused same fits is =
+    let there = subst (λ (x : Book). length x.world.history ≤ x.world.limit) same fits in
+    subst (λ (x : Book). length x.world.history ≡ x.world.limit) (sym same)
+    (full_length b.world there (refused (λ e. cc e))) ∙ is
+full_told told b b' limit full refused same fits is = absurd (false≢true full)
+
+pub knew_full : {C : Type 0} (limit n : ℕ) (told : Result C Errno) (k mid k' : Knows) → is_at_full told ≡ true
+    → mid ≡ k → k' ≡ record mid { seen = n } → n ≡ limit → k' ≡ knows_full limit told k
+knew_full limit n told k mid k' full same e all =
+    e ∙ (λ i. record (same i) { seen = all i }) ∙ ap (λ b. if b then record k { seen = limit } else k) (sym full)
+
+pub knew_room : {C : Type 0} (limit : ℕ) (told : Result C Errno) (k k' : Knows) → is_at_full told ≡ false → k' ≡ k
+    → k' ≡ knows_full limit told k
+knew_room limit told k k' room e = e ∙ ap (λ b. if b then record k { seen = limit } else k) (sym room)

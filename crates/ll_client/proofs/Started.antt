@@ -1,6 +1,6 @@
 -- What becomes of the tree and of a client where its call is started.
 use Rattle.std.specs.Prelude.{◌≡◌, ℕ, ◌≤◌, List, length, Option, Some, Ok, refl}
-use Rattle.std.proofs.Common.{ap, arith}
+use Rattle.std.proofs.Common.{arith}
 use Rattle.ll_seq.specs.declared.call.Call.{Call}
 use Rattle.ll_laws.specs.declared.step.Step.TheVariants.{Begin, ClientStep}
 use Rattle.ll_laws.specs.World as world

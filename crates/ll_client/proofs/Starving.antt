@@ -1,8 +1,8 @@
 -- Where memory runs out there was room, and nothing refused the call.
-use Rattle.std.specs.Prelude.{◌≡◌, ◌≢◌, ℕ, ◌+◌, ◌*◌, Bool, true, false, List, [], ◌∷◌, length, Option, Some, take}
+use Rattle.std.specs.Prelude.{◌≡◌, ℕ, ◌+◌, ◌*◌, true, false, List, length, Option, Some}
 use Rattle.std.specs.Prelude.{Result, Ok, Err, IfOk, option_map, refl}
 use Rattle.std.specs.Ordering.{nat_cmp}
-use Rattle.std.proofs.Common.{sym, subst, ap, ◌∙◌, inl, inr, arith}
+use Rattle.std.proofs.Common.{sym, subst, ap, ◌∙◌, arith}
 use Rattle.std.proofs.lemmas.Bool.{leb-false}
 use Rattle.std.proofs.lemmas.List.{take_all}
 use Rattle.ll_rights.specs.Map.{Map, get, insert, remove}
@@ -31,10 +31,10 @@ use Rattle.ll_client.specs.declared.left.Leaving.{Leaving}
 use Rattle.ll_client.specs.declared.left.Leaving.TheVariants.{Commit, Restart}
 use Rattle.ll_client.specs.declared.left.Left.{Left}
 use Rattle.ll_client.specs.declared.left.Left.TheVariants as left
-use Rattle.ll_client.specs.Entries.{AreAccounts, AreStarved, IsStarved, doing_of, starved_at, starved_in, wants_entry}
+use Rattle.ll_client.specs.Entries.{AreAccounts, AreStarved, IsStarved, doing_of, starved_at, wants_entry}
 use Rattle.ll_client.specs.Gains.{Leaves}
-use Rattle.ll_client.specs.Hands.{OnlyWants, starved_if, starves_left, starves_made, starves_started, with_starved}
-use Rattle.ll_client.proofs.Accounts.{Took, gave, gave_other, one_more, only_wants, took, wants_account}
+use Rattle.ll_client.specs.Hands.{OnlyWants, starves_left, starves_made, starves_started, with_starved}
+use Rattle.ll_client.proofs.Accounts.{gave, gave_other, one_more, only_wants, took, wants_account}
 use Rattle.ll_client.proofs.Directs.{IsDirect, direct_may}
 
 starves_now : (w : World) (c : ℕ) (call : Call) → is_full w ≡ false → MayStarve (shown w) c call

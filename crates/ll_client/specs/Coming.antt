@@ -1,5 +1,8 @@
 -- What the slots of a tree hold, how a client changes when its call is started, and the result of a spawn. own
-use Rattle.std.specs.Prelude.{◌≡◌, ◌⊎◌, ℕ, List, map, length, Some, Result, Ok, Err, true}
+use Rattle.std.specs.Prelude.{◌≡◌, ◌⊎◌, ℕ, List, [], ◌∷◌, map, length, reverse, Option, None, Some, Result, Ok, Err}
+use Rattle.std.specs.Prelude.{Bool, true, false, if◌then◌else◌}
+use Rattle.std.specs.Sync.Mutex.{mutex_guard_value}
+use Rattle.std.specs.declared.sync.MutexGuard.{MutexGuard}
 use Rattle.std.specs.List.{range_with_len}
 use Rattle.ll_rights.specs.declared.errno.Errno.{Errno}
 use Rattle.ll_rights.specs.declared.errno.Errno.TheVariants.{EMFILE, HistoryFull, NoMemory}
@@ -16,6 +19,23 @@ use Rattle.ll_client.specs.Gains.{Gains}
 
 abbrev pub kept_at : Book → ℕ → Kept
 kept_at b k = record { number = k; held = slot_of b k }
+
+-- what is behind those of these locks that are held
+abbrev pub kept_in : List (Option (MutexGuard Kept)) → List Kept
+kept_in [] = []
+kept_in (None ∷ places) = kept_in places
+kept_in (Some guard ∷ places) = mutex_guard_value guard ∷ kept_in places
+
+-- from the last to the first
+abbrev pub stacked : List (Option (MutexGuard Kept)) → List Kept
+stacked places = kept_in (reverse places)
+
+abbrev pub kept_numbers : List Kept → List ℕ
+kept_numbers = map (λ (k : Kept). k.number)
+
+-- what the slots with these numbers hold by the book
+abbrev pub kept_by : Book → List Kept → List Kept
+kept_by b = map (λ (k : Kept). kept_at b k.number)
 
 -- in the order of their numbers
 abbrev pub all_kept : Book → List Kept
@@ -41,3 +61,11 @@ spawn_made (Err errno) = childless errno
 -- Why no client is created: the tree has as many as it may, the history is full, or memory ran out
 abbrev pub HasNoPlace : Errno → Type 0
 HasNoPlace errno = (errno ≡ EMFILE) ⊎ (errno ≡ HistoryFull) ⊎ (errno ≡ NoMemory)
+
+abbrev pub is_at_full : {C : Type 0} → Result C Errno → Bool
+is_at_full (Err HistoryFull) = true
+is_at_full told = false
+
+-- a client after which another one couldn't come, since the history is full, knows of all that it may have
+abbrev pub knows_full : {C : Type 0} → ℕ → Result C Errno → Knows → Knows
+knows_full limit told k = if is_at_full told then record k { seen = limit } else k

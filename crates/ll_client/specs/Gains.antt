@@ -6,12 +6,12 @@ use Rattle.ll_seq.specs.Memory.{takes_memory}
 use Rattle.ll_laws.specs.World as world
 use Rattle.ll_laws.specs.World.{advance}
 use Rattle.ll_laws.specs.declared.step.Step.TheVariants as steps
-use Rattle.ll_journal.specs.Book.{Book}
+use Rattle.ll_journal.specs.Book.{Book, Spares}
 use Rattle.ll_journal.specs.declared.direct.Made.{Made}
 use Rattle.ll_journal.specs.declared.direct.Made.TheVariants as made
 use Rattle.ll_journal.specs.declared.progress.Ending.TheVariants as ending
 use Rattle.ll_journal.specs.Steps.{IsAstrayAt}
-use Rattle.ll_journal.specs.WalkEnds.{Ends, IsAstrayAtEnd, LeavesFree}
+use Rattle.ll_journal.specs.WalkEnds.{Ends, IsAstrayAtEnd, LeavesFree, MayTakeMemory}
 use Rattle.ll_client.specs.declared.left.Leaving.{Leaving}
 use Rattle.ll_client.specs.declared.left.Leaving.TheVariants.{Commit, Restart}
 use Rattle.ll_client.specs.declared.left.Left.{Left}
@@ -69,3 +69,11 @@ IsAstray Restart b number slots = IsAstrayAt b number slots
 abbrev pub LeavesRest : Leaving → Book → ℕ → List ℕ → Book → Type 0
 LeavesRest Commit b number slots b' = LeavesFree b number slots b'
 LeavesRest Restart b number slots b' = b' ≡ record b { world = b'.world }
+
+-- With these slots lent, the walk is left so. Memory may run out only where a call adds something, and other slots stay
+pub record IsLeft (leaving : Leaving) (b : Book) (number : ℕ) (slots : List ℕ) (told : Left) (b' : Book) : Type 0 where
+  pub leaves : Leaves leaving b number told b'
+  pub astray : told ≡ left.Astray → IsAstray leaving b number slots
+  pub spares : Spares b b' slots
+  pub calm : told ≡ left.NoMemory → MayTakeMemory b.world number
+  pub rest : LeavesRest leaving b number slots b'

@@ -1,22 +1,22 @@
 -- How the entries change when passes are taken back and given out. No public contract cites it. own
 use Rattle.std.specs.Prelude.{◌≡◌, ◌≢◌, ℕ, ◌+◌, ◌*◌, ◌≤◌, ◌==◌, Bool, true, false, List, [], ◌∷◌, ◌++◌, ⊤}
-use Rattle.std.specs.Prelude.{Option, Some, None, Result, Ok, Err}
+use Rattle.std.specs.Prelude.{Option, Some, None, Result, Ok, Err, length, map}
 use Rattle.std.specs.Prelude.{if◌then◌else◌}
 use Rattle.std.specs.Ordering.{nat_cmp}
 use Rattle.ll_rights.specs.declared.errno.Errno.{Errno}
 use Rattle.ll_rights.specs.declared.errno.Errno.TheVariants.{EMFILE, HistoryFull, NoMemory}
 use Rattle.ll_rights.specs.declared.kind.Kind.TheVariants.{Dir}
-use Rattle.ll_rights.specs.declared.limits.TheConstants.{TREE_CLIENTS}
+use Rattle.ll_rights.specs.declared.limits.TheConstants.{TREE_CLIENTS, TREE_NODES}
 use Rattle.ll_rights.specs.Map.{Map, get, has}
 use Rattle.ll_seq.specs.declared.call.Call.{Call}
 use Rattle.ll_seq.specs.declared.reply.Reply.{Reply}
 use Rattle.ll_seq.specs.declared.reply.Reply.TheVariants as replies
 use Rattle.ll_laws.specs.World.{World, shown}
-use Rattle.ll_journal.specs.Book.{Book}
+use Rattle.ll_journal.specs.Book.{Book, slot_of}
 use Rattle.ll_seq.specs.State.{root}
 use Rattle.ll_node.specs.declared.held.Held.{Held}
 use Rattle.ll_node.specs.Lent.{filled, vacant}
-use Rattle.ll_node.specs.InodeTable.{NotIn}
+use Rattle.ll_node.specs.InodeTable.{AreDistinct, NotIn}
 use Rattle.ll_journal.specs.declared.direct.Made.{Made}
 use Rattle.ll_journal.specs.declared.direct.Made.TheVariants as made
 use Rattle.ll_journal.specs.declared.start.Start.{Start}
@@ -30,15 +30,16 @@ use Rattle.ll_client.specs.declared.account.Starved.{Starved}
 use Rattle.ll_client.specs.declared.left.Left.{Left}
 use Rattle.ll_client.specs.declared.left.Left.TheVariants as left
 use Rattle.ll_client.specs.Closed.{HoldsPart}
-use Rattle.ll_client.specs.Entries.{Knows, doing_of, starved_at}
+use Rattle.ll_client.specs.Entries.{AreAccounts, Knows, doing_of, starved_at}
 
 -- no slot of this list has an entry
 abbrev pub AllOut : List ℕ → Map nat_cmp Account → Type 0
 AllOut [] m = ⊤
 AllOut (k ∷ ks) m = (get m (3 * k) ≡ None) × AllOut ks m
 
--- a slot's entry was removed, and the slot is none of those whose entries were removed before
+-- a slot's entry was removed, no client's, and the slot is none of those whose entries were removed before
 pub record SlotGoes (k : ℕ) (m n : Map nat_cmp Account) : Type 0 where
+  pub clients : (d : ℕ) → get n (3 * d + 1) ≡ get m (3 * d + 1)
   pub out : (ks : List ℕ) → AllOut ks m → AllOut (k ∷ ks) n × NotIn k ks
 
 -- a client's entry was removed, and no other client's
@@ -57,6 +58,15 @@ pub record OnlyWants (m n : Map nat_cmp Account) : Type 0 where
 pub record SlotComes (k c : ℕ) (m n : Map nat_cmp Account) : Type 0 where
   pub out : (ks : List ℕ) → NotIn k ks → AllOut ks m → AllOut ks n
   pub client : get m (3 * c + 1) ≡ None → get n (3 * c + 1) ≡ None
+
+-- While a client and some slots have no pass: what these slots hold is lent, and every other pass shows an account
+pub record AreLent (b : Book) (m : Map nat_cmp Account) (c : ℕ) (numbers : List ℕ) (held : List Held) : Type 0 where
+  pub all : AreAccounts b m
+  pub few : length b.inodes ≤ TREE_NODES + TREE_CLIENTS
+  pub distinct : AreDistinct numbers
+  pub out : AllOut numbers m
+  pub alone : get m (3 * c + 1) ≡ None
+  pub held_is : held ≡ map (slot_of b) numbers
 
 -- what the slot with this number holds in a new tree
 abbrev pub held_first : ℕ → Held
@@ -140,6 +150,10 @@ with_starved starved entries (Some call) = starved ++ starved_at entries call �
 -- with this call added if memory ran out for it
 abbrev pub starved_if : Bool → List Starved → ℕ → Option Call → List Starved
 starved_if ran_out starved entries call = if ran_out then with_starved starved entries call else starved
+
+-- of a client whose walk was left so
+abbrev pub starved_after : Left → Book → ℕ → List Starved → List Starved
+starved_after it b c starved = starved_if (starves_left it) starved (length b.world.history) (doing_of b.world c)
 
 -- ---- the result of a spawn, by what the journal returns. A spawn's reply is the child's number or a refusal
 

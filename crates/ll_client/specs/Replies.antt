@@ -1,5 +1,5 @@
 -- Which replies a call may have. own
-use Rattle.std.specs.Prelude.{◌≡◌, ◌≤◌, Bool, true, false, ⊤, Option}
+use Rattle.std.specs.Prelude.{◌≡◌, ◌≤◌, Bool, true, false, ⊤}
 use Rattle.ll_rights.specs.Errno.{errno_number}
 use Rattle.ll_seq.specs.declared.call.Call.{Call}
 use Rattle.ll_seq.specs.declared.call.Call.TheVariants.{Make, Open, Read, Write, Ftruncate, Close, Truncate, ReadDir}

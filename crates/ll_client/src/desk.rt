@@ -2,17 +2,17 @@
 
 use crate::Keeper;
 use crate::account::Account;
+use crate::lent::Lent;
 use crate::shape::Shape;
 use ll_journal::Journal;
-use std::alloc::Global;
 use std::marker::Model;
 
 /// The journal, and the keeper of the passes that are out. Contracts see it as the journal.
 #[derive(Drop)]
 pub struct Desk<N: Shape> {
-    pub(crate) alloc: Global,
     pub(crate) journal: Journal,
     pub(crate) keeper: Keeper<N, Account>,
+    pub(crate) lent: Lent,
 }
 
 impl<N: Shape> Model for Desk<N> {

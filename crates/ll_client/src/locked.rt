@@ -4,9 +4,12 @@ ghost use Rattle.std.specs.Prelude.{◌≡◌};
 
 use crate::Pass;
 use crate::account::Account;
+use crate::lent::LENT_SLOTS;
 use crate::shape::Shape;
+use arrayvec::ArrayVec;
 use ll_node::Held;
 use std::marker::Model;
+use std::sync::MutexGuard;
 
 /// The contents of the slot of this number, and the pass that shows them as the slot's account.
 #[derive(Drop)]
@@ -15,6 +18,12 @@ pub struct Locked<N: Shape> {
     pub(crate) held: Held,
     pub(crate) pass: Pass<N, Account>,
 }
+
+/// The guard of a slot, if the walk holds its lock.
+pub type Place<'a, N> = Option<MutexGuard<'a, Locked<N>>>;
+
+/// The guards of slots, whose last is lent first.
+pub type Places<'a, N> = ArrayVec<Place<'a, N>, LENT_SLOTS>;
 
 impl<N: Shape> Model for Locked<N> {
     ghost use Rattle.ll_client.specs.Entries.{Kept, coded_kept, slot_entry};

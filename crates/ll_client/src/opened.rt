@@ -10,6 +10,7 @@ ghost use Rattle.ll_client.specs.Hands.{held_first};
 
 use crate::account::Account;
 use crate::desk::Desk;
+use crate::lent::Lent;
 use crate::locked::Locked;
 use crate::shape::Shape;
 use crate::{Blank, Keeper, Tie};
@@ -111,13 +112,14 @@ pub fn open<N: Shape>(
     ensures slots { IfOk result (λ tree. tree.slots.items ≡ all_kept tree.desk) }
     ensures count { IfOk result (λ tree. length tree.slots.items ≡ N.slots) }
 {
+    let lent = Lent::none(alloc)?;
     let (tie, mut keeper) = blank.named::<N>();
     let journal = Journal::new(alloc, rules, nodes, history)?;
     let slots = new_slots(alloc, &tie, &mut keeper, &journal, nodes + TREE_CLIENTS)?;
     let desk = Desk {
-        alloc,
         journal,
         keeper,
+        lent,
     };
     Ok(Opened { tie, desk, slots })
 }

@@ -1,4 +1,4 @@
-use Rattle.std.proofs.Common.{map, length, subst, sym, ◌∙◌}
+use Rattle.std.proofs.Common.{map, subst, sym, ◌∙◌}
 use Rattle.ll_journal.specs.Book.{Book}
 use Rattle.ll_client.specs.Closed.{AreClients}
 use Rattle.ll_client.proofs.AllClients.{all_clients, count_mapped}

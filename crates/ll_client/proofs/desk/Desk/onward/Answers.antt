@@ -1,7 +1,4 @@
-use Rattle.std.proofs.Common.{◌≡◌, ◌∷◌, [], Some, ap, sym, refl, ◌∙◌}
-use Rattle.std.specs.Prelude.{option_map}
-use Rattle.ll_laws.specs.Walk.{Walk}
-use Rattle.ll_client.specs.Entries.{Knows, doing_in, knows, part_in, starved_in}
+use Rattle.std.proofs.Common.{◌∷◌, []}
 use Rattle.ll_client.proofs.Desks.{desk_seen}
 use Rattle.ll_client.proofs.desk.Desk.onward.Goals as goal
 

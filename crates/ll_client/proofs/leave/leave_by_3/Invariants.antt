@@ -1,4 +1,0 @@
-use Rattle.ll_client.proofs.leave.leave_by_3.Given as goal
-
-abbrev pub ghost-leave_with : goal.ghost-leave_with
-ghost-leave_with g a = a.journal.now
