@@ -1,4 +1,2 @@
 pub mod Looks
-pub mod Riders
-pub mod Shown
 pub mod Walks

@@ -28,33 +28,11 @@ pub comes_down : (b : Book) (slots : ℕ) (doing : Option Call) (here : Kept) (o
     → IsComing slots doing here (coming.Down on)
 comes_down b slots doing here on is within names = (subst (λ (n : ℕ). on.slot < n) is within, names)
 
--- the same book, client and slots, by other names
-pub sees_as : (b w : Book) (m n j k : ℕ) (it : Coming) → b ≡ w → m ≡ n → j ≡ k → Sees b m j it → Sees w n k it
-sees_as b w m n j k it book number slot =
-    subst (λ (p : Book × (ℕ × ℕ)). Sees p.0 p.1.0 p.1.1 it) (λ i. (book i, (number i, slot i)))
-
-pub sees_after_as : (b w : Book) (m n j k h l : ℕ) (made : Progress) (it : Coming) → b ≡ w → m ≡ n → j ≡ k
-    → h ≡ l → SeesAfter b m j h made it → SeesAfter w n k l made it
-sees_after_as b w m n j k h l made it book number from to =
-    subst (λ (p : Book × (ℕ × (ℕ × ℕ))). SeesAfter p.0 p.1.0 p.1.1.0 p.1.1.1 made it)
-    (λ i. (book i, (number i, (from i, to i))))
-
-pub view_as : (b w : Book) (m n j k : ℕ) (it : View) → b ≡ w → m ≡ n → j ≡ k → IsView b m j it
-    → IsView w n k it
-view_as b w m n j k it book number slot =
-    subst (λ (p : Book × (ℕ × ℕ)). IsView p.0 p.1.0 p.1.1 it) (λ i. (book i, (number i, slot i)))
-
 pub view_from_as : (b w : Book) (m n j k h l : ℕ) (it : View) → b ≡ w → m ≡ n → j ≡ k → h ≡ l
     → IsViewFrom b m j h it → IsViewFrom w n k l it
 view_from_as b w m n j k h l it book number one other =
     subst (λ (p : Book × (ℕ × (ℕ × ℕ))). IsViewFrom p.0 p.1.0 p.1.1.0 p.1.1.1 it)
     (λ i. (book i, (number i, (one i, other i))))
-
-pub view_after_as : (b w : Book) (m n c j k h l : ℕ) (made : Progress) (it : View) → b ≡ w → m ≡ n → j ≡ k
-    → h ≡ l → IsViewAfter b m c j h made it → IsViewAfter w n c k l made it
-view_after_as b w m n c j k h l made it book number from to =
-    subst (λ (p : Book × (ℕ × (ℕ × ℕ))). IsViewAfter p.0 p.1.0 c p.1.1.0 p.1.1.1 made it)
-    (λ i. (book i, (number i, (from i, to i))))
 
 -- what holds anyhow holds where nothing was told
 pub if_none : {T : Type 0} (told : Option T) (P : Type 0) → P → IfNone told P

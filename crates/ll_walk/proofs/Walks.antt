@@ -73,13 +73,6 @@ stays limit l it k' g none = subst (λ (x : Option Made). Came limit l x k') non
 pub again : (limit : ℕ) (l : Knows) (it : Left) (k' : Knows) → Goes limit l it k' → it ≡ left.Again → k' ≡ l
 again limit l it k' g is = subst (λ (x : Left). Goes limit l x k') is g
 
--- a client that had no walk under way has none after its call
-pub idle_after : (limit : ℕ) (call : Call) (k : Knows) (it : Made) (k' : Knows) → k.doing ≡ None
-    → Gains limit call k it k' → k'.doing ≡ None
-idle_after limit call k (made.Replied reply) k' idle g = ap (λ (x : Knows). x.doing) g.2
-idle_after limit call k made.HistoryFull k' idle g = ap (λ (x : Knows). x.doing) g.1 ∙ idle
-idle_after limit call k made.NoMemory k' idle g = ap (λ (x : Knows). x.doing) g.2 ∙ idle
-
 -- a call that is given back is the one that was made
 pub given_back : (b w : Book) (n : ℕ) (call : Call) (it : Start) (back : Call) → Starts b n call it w
     → it ≡ start.Back back → back ≡ call

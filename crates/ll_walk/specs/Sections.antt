@@ -1,5 +1,5 @@
 -- What a section is, and what the start of a walk results in. own
-use Rattle.std.specs.Prelude.{◌≡◌, ◌⊎◌, ℕ, ◌<◌, List, map, Option, Some, None, ⊤, true}
+use Rattle.std.specs.Prelude.{◌≡◌, ◌⊎◌, ℕ, ◌<◌, List, Option, Some, None, ⊤, true}
 use Rattle.std.specs.List.{AllByRecursion}
 use Rattle.ll_rights.specs.Map.{get}
 use Rattle.ll_seq.specs.Passed.{has_path}
@@ -15,7 +15,7 @@ use Rattle.ll_journal.specs.Onward.{Names, is_past_fork}
 use Rattle.ll_journal.specs.Stations.{station_in}
 use Rattle.ll_journal.specs.Steps.{GoesDown, IsNext}
 use Rattle.ll_client.specs.Entries.{Kept, Knows}
-use Rattle.ll_client.specs.Coming.{kept_at}
+use Rattle.ll_client.specs.Coming.{kept_by, kept_numbers}
 use Rattle.ll_client.specs.Gains.{Gains}
 use Rattle.ll_walk.specs.declared.section.Coming.{Coming}
 use Rattle.ll_walk.specs.declared.section.Coming.TheVariants as coming
@@ -23,9 +23,9 @@ use Rattle.ll_walk.specs.declared.section.View.{View}
 
 -- Between two books: what is lent agrees with the slots' accounts before and after, and no other account changed
 pub record Shows (b w : Book) (before after : List Kept) : Type 0 where
-  pub before_is : before ≡ map (λ (k : Kept). kept_at b k.number) before
-  pub after_is : after ≡ map (λ (k : Kept). kept_at w k.number) before
-  pub others : Spares b w (map (λ (k : Kept). k.number) before)
+  pub before_is : before ≡ kept_by b before
+  pub after_is : after ≡ kept_by w before
+  pub others : Spares b w (kept_numbers before)
 
 -- None: the client's walk is under way, unchanged. Some: its call, which has a path, got this answer, and its walk has
 -- ended

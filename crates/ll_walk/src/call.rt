@@ -8,7 +8,7 @@ ghost use Rattle.ll_seq.specs.declared.reply.Entry.{Entry};
 ghost use Rattle.ll_seq.specs.declared.call.Call.TheVariants as calls;
 ghost use Rattle.ll_seq.specs.declared.reply.Reply.TheVariants as replies;
 ghost use Rattle.ll_laws.specs.World as world;
-ghost use Rattle.ll_client.specs.Coming.{HasNoPlace, childless};
+ghost use Rattle.ll_client.specs.Coming.{HasNoPlace, childless, knows_full};
 ghost use Rattle.ll_client.specs.Entries.{knows, numbered};
 ghost use Rattle.ll_client.specs.Gains.{Gains, Told};
 
@@ -36,14 +36,16 @@ impl<N: Shape, G: Gate<N>> Table<N, G> {
         client
     }
 
-    /// Adds a client whose entry comes after every entry that `me` knows of. Errors: those of `connect`.
+    /// Adds a client whose entry comes after every entry that `me` knows of. Errors: those of `connect`. If
+    /// the history is full, `me` knows of all of it.
     pub fn connect_after<R: Wait>(&self, rt: &R, me: &mut Client<N>) -> Result<Client<N>, Errno>
         ensures client { IfOk result (λ client. client.rider
             ≡ knows client.rider.number (numbered client.rider.seen calls.Connect replies.Done ∷ []) []
             client.rider.seen None) }
         ensures after { IfOk result (λ client. me.old.rider.seen < client.rider.seen) }
         ensures errors { IfErr result HasNoPlace }
-        ensures mine { me.new.rider ≡ me.old.rider }
+        ensures low { me.old.rider.seen ≤ me.new.rider.seen }
+        ensures mine { me.new.rider ≡ knows_full N.limit result me.old.rider }
     {
         let (client, spent) = self.section(rt).connect_after(&self.tie, me);
         drop(spent);

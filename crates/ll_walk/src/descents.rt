@@ -8,11 +8,10 @@ ghost use Rattle.ll_walk.specs.Sections.{AreThere, IsComing};
 ghost use Rattle.ll_client.specs.Entries.{Kept};
 
 use crate::gate::Gate;
-use crate::held::Place;
 use crate::section::{Coming, View};
 use crate::table::Table;
 use crate::waiter::Waiter;
-use ll_client::{Locked, Rider, Shape};
+use ll_client::{Locked, Place, Rider, Shape};
 use ll_journal::Onward;
 use std::sync::{MutexGuard, Wait};
 use std::thread;

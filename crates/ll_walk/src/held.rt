@@ -1,18 +1,16 @@
 //! The locks that a walk holds past its fork.
 
-ghost use Rattle.std.specs.Prelude.{◌≡◌, ◌<◌, ℕ, IfSome};
+ghost use Rattle.std.specs.Prelude.{◌≡◌, ◌<◌, ◌≤◌, ◌+◌, ℕ, IfSome, length};
 ghost use Rattle.std.specs.List.{AllByRecursion};
 ghost use Rattle.std.specs.Sync.Mutex.{mutex_guard_value};
 ghost use Rattle.ll_client.specs.Entries.{Kept};
 ghost use Rattle.ll_client.specs.Gains.{Goes};
+ghost use Rattle.ll_client.specs.declared.lent.TheConstants.{LENT_SLOTS};
 ghost use Rattle.ll_walk.specs.Sections.{AreThere};
 
 use crate::section::{Section, View};
-use ll_client::{Account, Leaving, Left, Locked, Rider, Shape, Tie};
+use ll_client::{Account, Leaving, Left, Locked, Place, Places, Rider, Shape, Tie};
 use std::sync::MutexGuard;
-
-/// The guard of a slot, if the walk holds its lock.
-pub(crate) type Place<'a, N> = Option<MutexGuard<'a, Locked<N>>>;
 
 /// The lock of the fork's directory; and for each leg the lock of its directory, if that is another one.
 #[derive(Drop)]
@@ -41,6 +39,27 @@ pub(crate) fn unless_held(slot: Option<u64>, held: &[u64]) -> Option<u64>
     match slot {
         Some(slot) if !held.contains(&slot) => Some(slot),
         _ => None,
+    }
+}
+
+/// Puts the guard on the stack, if the lock is held. Reports whether it is.
+#[inline(always)]
+fn stack<'a, N: Shape>(others: &mut Places<'a, N>, place: &mut Place<'a, N>) -> bool
+    requires { length others.old.items < LENT_SLOTS }
+    ensures { length others.new.items ≤ length others.old.items + 1 }
+{
+    let is_held = place.is_some();
+    if is_held {
+        others.push(place.take());
+    }
+    is_held
+}
+
+/// Takes it back from there.
+#[inline(always)]
+fn unstack<'a, N: Shape>(others: &mut Places<'a, N>, place: &mut Place<'a, N>, is_held: bool) {
+    if is_held {
+        *place = others.pop().unwrap_or(None);
     }
 }
 
@@ -140,22 +159,15 @@ impl<'a, N: Shape> Split<'a, N> {
     ) -> Left
         ensures mine { Goes N.limit me.old result me.new }
     {
-        let Split {
-            common,
-            first,
-            second,
-        } = self;
-        let (left, spent) = match (first, second, last) {
-            (None, None, None) => section.leave_1(tie, me, common, leaving),
-            (Some(a), None, None) => section.leave_2(tie, me, common, a, leaving),
-            (None, Some(b), None) => section.leave_2(tie, me, common, b, leaving),
-            (None, None, Some(d)) => section.leave_2(tie, me, common, d, leaving),
-            (Some(a), Some(b), None) => section.leave_3(tie, me, common, a, b, leaving),
-            (Some(a), None, Some(d)) => section.leave_3(tie, me, common, a, d, leaving),
-            (None, Some(b), Some(d)) => section.leave_3(tie, me, common, b, d, leaving),
-            (Some(a), Some(b), Some(d)) => section.leave_4(tie, me, common, a, b, d, leaving),
-        };
+        let mut others = Places::new();
+        let has_last = stack(&mut others, last);
+        let has_second = stack(&mut others, &mut self.second);
+        let has_first = stack(&mut others, &mut self.first);
+        let (left, spent) = section.leave(tie, me, &mut self.common, &mut others, leaving);
         drop(spent);
+        unstack(&mut others, &mut self.first, has_first);
+        unstack(&mut others, &mut self.second, has_second);
+        unstack(&mut others, last, has_last);
         left
     }
 }

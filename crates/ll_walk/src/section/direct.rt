@@ -10,7 +10,7 @@ ghost use Rattle.ll_laws.specs.declared.step.Step.TheVariants.{ClientStep, FdCom
 ghost use Rattle.ll_journal.specs.Book.{inode_in};
 ghost use Rattle.ll_journal.specs.Direct.{Answers, ComesBack, IsOpen};
 ghost use Rattle.ll_journal.specs.Starts.{Starts};
-ghost use Rattle.ll_client.specs.Coming.{HasNoPlace, SetsOut, childless};
+ghost use Rattle.ll_client.specs.Coming.{HasNoPlace, SetsOut, childless, is_at_full, knows_full};
 ghost use Rattle.ll_client.specs.Entries.{knows, numbered};
 ghost use Rattle.ll_client.specs.Gains.{Gains, Told};
 ghost use Rattle.ll_walk.specs.Sections.{Shows};
@@ -20,6 +20,16 @@ use ll_client::{Account, Client, Locked, Rider, Shape, Tie};
 use ll_journal::{Made, Start, Unmade};
 use ll_rights::Errno;
 use ll_seq::Call;
+
+/// Whether no client came since the history is full.
+fn is_at_full<N: Shape>(client: &Result<Client<N>, Errno>) -> bool
+    ensures { result ≡ is_at_full client.now }
+{
+    match client {
+        Err(errno) => *errno == Errno::HistoryFull,
+        Ok(_) => false,
+    }
+}
 
 impl<'a, N: Shape> Section<'a, N> {
     /// Starts the client's call: it is made and answered, its walk begins, or it is given back.
@@ -102,7 +112,8 @@ impl<'a, N: Shape> Section<'a, N> {
         (client, Spent { desk })
     }
 
-    /// Adds a client whose entry comes after every entry that `me` knows of. Errors: those of `connect`.
+    /// Adds a client whose entry comes after every entry that `me` knows of. Errors: those of `connect`. If
+    /// the history is full, `me` knows of all of it.
     pub fn connect_after(
         self,
         tie: &Tie<N, Account>,
@@ -123,10 +134,16 @@ impl<'a, N: Shape> Section<'a, N> {
         ensures starved { IfErr result.0 (λ errno. errno ≡ Errno.NoMemory → (after : World)
             × (advance (mutex_guard_value self.entry.desk).world Join
             ≡ (Joined (next_number (mutex_guard_value self.entry.desk).world), after))) }
-        ensures mine { me.new.rider ≡ me.old.rider }
+        ensures low { me.old.rider.seen ≤ me.new.rider.seen }
+        ensures mine { me.new.rider ≡ knows_full N.limit result.0 me.old.rider }
     {
         let Section { mut desk } = self;
         let client = desk.connect_after(tie, me);
+        if !is_at_full(&client) {
+            return (client, Spent { desk });
+        }
+        desk.by_law();
+        desk.catch_up(tie, me);
         (client, Spent { desk })
     }
 
