@@ -9,7 +9,7 @@ ghost use Rattle.ll_seq.specs.History.{IsLegal, is_connect};
 ghost use Rattle.ll_seq.specs.State.{start};
 ghost use Rattle.ll_seq.specs.declared.reply.Entry.{Entry};
 ghost use Rattle.ll_client.specs.Closed.{IsClosed};
-ghost use Rattle.ll_client.specs.Coming.{HasNoPlace, childless};
+ghost use Rattle.ll_client.specs.Coming.{HasNoPlace, childless, knows_full};
 ghost use Rattle.ll_client.specs.Entries.{knows, numbered};
 ghost use Rattle.ll_client.specs.Gains.{Gains, Told};
 ghost use Rattle.ll_client.specs.Replies.{success};
@@ -72,14 +72,16 @@ impl<N: Shape, G: Gate<N>> Tree<N, G> {
         self.table.connect(rt)
     }
 
-    /// Adds a client whose entry comes after every entry that `me` knows of. Errors: those of `connect`.
+    /// Adds a client whose entry comes after every entry that `me` knows of. Errors: those of `connect`. If
+    /// the history is full, `me` knows of all of it.
     pub fn connect_after<R: Wait>(&self, rt: &R, me: &mut Client<N>) -> Result<Client<N>, Errno>
         ensures client { IfOk result (λ client. client.rider
             ≡ knows client.rider.number (numbered client.rider.seen calls.Connect replies.Done ∷ []) []
             client.rider.seen None) }
         ensures after { IfOk result (λ client. me.old.rider.seen < client.rider.seen) }
         ensures errors { IfErr result HasNoPlace }
-        ensures mine { me.new.rider ≡ me.old.rider }
+        ensures low { me.old.rider.seen ≤ me.new.rider.seen }
+        ensures mine { me.new.rider ≡ knows_full N.limit result me.old.rider }
     {
         self.table.connect_after(rt, me)
     }
