@@ -1,6 +1,6 @@
 -- What contracts see of a list of clients, when one of them has come on, or one more has come.
 use Rattle.std.specs.Prelude.{◌≡◌, ◌≢◌, ℕ, ◌+◌, ◌<◌, ◌≤◌, ◌==◌, false, List, [], ◌∷◌, ◌++◌, length, map}
-use Rattle.std.specs.Prelude.{None, Some, option_map, slice_get, slice_index_or, slice_set, refl}
+use Rattle.std.specs.Prelude.{None, Some, option_map, slice_get, slice_index_or, slice_set}
 use Rattle.std.proofs.Common.{sym, ap, subst, ◌∙◌, inl, inr, arith}
 use Rattle.std.proofs.lemmas.Bool.{false≢true}
 use Rattle.std.proofs.lemmas.List.{length-map, length-set, length_push, map-append, map-set}

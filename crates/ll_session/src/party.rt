@@ -10,7 +10,7 @@ ghost use Rattle.ll_seq.specs.declared.call.Call.TheVariants as calls;
 ghost use Rattle.ll_seq.specs.declared.reply.Reply.TheVariants as replies;
 ghost use Rattle.ll_journal.specs.declared.direct.Made.{Made};
 ghost use Rattle.ll_client.specs.Closed.{IsClosed};
-ghost use Rattle.ll_client.specs.Coming.{HasNoPlace};
+ghost use Rattle.ll_client.specs.Coming.{HasNoPlace, is_at_full};
 ghost use Rattle.ll_client.specs.Entries.{knows, numbered};
 ghost use Rattle.ll_client.specs.Replies.{success};
 ghost use Rattle.ll_session.specs.Between.{Leads};
@@ -130,7 +130,9 @@ impl<N: Shape> Party<N> {
             client.rider.seen None) }
         ensures after { IfOk result (λ client. seen_by self.old < client.rider.seen) }
         ensures errors { IfErr result HasNoPlace }
-        ensures same { self.new ≡ self.old }
+        ensures same { is_at_full result ≡ false → self.new ≡ self.old }
+        ensures looks { Looks self.old self.new }
+        ensures count { length self.new ≡ length self.old }
     {
         if self.clients.is_empty() {
             return tree.connect(rt);

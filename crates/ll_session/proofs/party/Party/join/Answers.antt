@@ -1,10 +1,10 @@
-use Rattle.std.proofs.Common.{List, length, sym, ap, subst, ◌∙◌, refl, arith}
+use Rattle.std.proofs.Common.{List, sym, subst, ◌∙◌, refl, arith, rules}
 use Rattle.ll_rights.specs.declared.errno.Errno.TheVariants.{NoMemory}
 use Rattle.ll_client.specs.Entries.{Knows}
 use Rattle.ll_session.specs.Between.{Leads}
 use Rattle.ll_session.specs.Talk.{seen_by}
 use Rattle.ll_session.proofs.Leading.{nothing_leads}
-use Rattle.ll_session.proofs.Leadings.{Refuses, Stays, full_so, joined_so, many_so, not_full, starved_so, stays_on}
+use Rattle.ll_session.proofs.Leadings.{Refuses, full_so, joined_so, many_so, not_full, starved_so, stays_on}
 use Rattle.ll_session.proofs.Lists.{joins_them}
 use Rattle.ll_session.proofs.Turns.{looks}
 use Rattle.ll_session.proofs.party.Party.join.Goals as goal
@@ -38,7 +38,7 @@ returns-in-Ok-clause-ok g c = λ room.
     (stays_on g.N.Shape.rules room g.N.Shape.limit c.args.self.now c.loop.self c.is_full.new.self
     (c.loop.invariant.0 room)
     (looks g.N.Shape.rules room g.N.Shape.limit c.loop.self c.is_full.new.self c.is_full.ensures.looks))
-    (joins_them c.is_full.new.self c.connect.new.self c.add.new.self c.in-Ok.client.rider c.in-Ok.ensures.same
+    (joins_them c.is_full.new.self c.connect.new.self c.add.new.self c.in-Ok.client.rider (c.in-Ok.ensures.same refl)
     c.add.ensures c.in-Ok.ensures.client c.in-Ok.ensures.after)
 
 pub returns-in-Err-NoMemory-clause-err : goal.returns-in-Err-NoMemory-clause-err
@@ -47,7 +47,7 @@ returns-in-Err-NoMemory-clause-err g c = λ room.
     let size = c.len.ensures in
     subst (λ (ks : List Knows).
     Leads g.N.Shape.rules room g.N.Shape.limit c.args.self.now ks (Refuses NoMemory))
-    (sym c.connect.ensures.same)
+    (sym (c.connect.ensures.same (search rules)))
     (starved_so g.N.Shape.rules room g.N.Shape.limit c.args.self.now c.is_full.new.self
     (stays_on g.N.Shape.rules room g.N.Shape.limit c.args.self.now c.loop.self c.is_full.new.self
     (c.loop.invariant.0 room)
@@ -58,10 +58,10 @@ returns-in-Err-NoMemory-clause-err g c = λ room.
 pub loop-preserved : goal.loop-preserved
 loop-preserved g c = (
   λ room.
-      subst (λ (ks : List Knows). Leads g.N.Shape.rules room g.N.Shape.limit c.args.self.now ks Stays)
-      (sym c.connect.ensures.same)
+      stays_on g.N.Shape.rules room g.N.Shape.limit c.args.self.now c.is_full.new.self c.connect.new.self
       (stays_on g.N.Shape.rules room g.N.Shape.limit c.args.self.now c.loop.self c.is_full.new.self
       (c.loop.invariant.0 room)
-      (looks g.N.Shape.rules room g.N.Shape.limit c.loop.self c.is_full.new.self c.is_full.ensures.looks)),
-  ap length c.connect.ensures.same ∙ c.is_full.ensures.count ∙ c.loop.invariant.1,
+      (looks g.N.Shape.rules room g.N.Shape.limit c.loop.self c.is_full.new.self c.is_full.ensures.looks))
+      (looks g.N.Shape.rules room g.N.Shape.limit c.is_full.new.self c.connect.new.self c.connect.ensures.looks),
+  c.connect.ensures.count ∙ c.is_full.ensures.count ∙ c.loop.invariant.1,
 )
