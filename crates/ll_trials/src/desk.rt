@@ -1,17 +1,19 @@
 //! A tree with one client and its child. The client's walk creates a directory, with two slots lent.
 
-ghost use Rattle.std.specs.Prelude.{◌≡◌, IsTrue, None, true};
+ghost use Rattle.std.specs.Prelude.{◌≡◌, ◌<◌, IsTrue, None, length, true};
+ghost use Rattle.ll_client.specs.declared.lent.TheConstants.{LENT_SLOTS};
 
 use crate::calls::target;
 use ll_client::{
-    Account, Blank, Client, Desk, Leaving, Left, Locked, Opened, Rider, Shape, Tie, close, open,
+    Account, Blank, Client, Desk, Leaving, Left, Locked, Opened, Places, Rider, Shape, Tie, close,
+    open,
 };
 use ll_journal::{Next, Progress};
 use ll_rights::{Abi, Kind};
 use ll_seq::{Call, ROOT, Reply, Rules};
 use std::alloc::Global;
 use std::marker::Brand;
-use std::sync::Wait;
+use std::sync::{Mutex, Wait};
 
 const RULES: Rules = Rules {
     abi: Abi::NEWEST,
@@ -55,22 +57,42 @@ fn makes<N: Shape>(
     desk: &mut Desk<N>,
     me: &mut Rider<N>,
     root: &mut Locked<N>,
-    spare: &mut Locked<N>,
+    others: &mut Places<'_, N>,
+    spare: u64,
 ) -> bool
+    requires { length others.old.items < LENT_SLOTS }
     ensures { IsTrue result → me.new.doing ≡ None }
 {
     if !sets_out(alloc, tie, desk, me) || desk.enter(tie, me, root) != Progress::Stands(ROOT) {
         return false;
     }
-    let is_told = ends_with(tie, desk, me, root, spare.number());
-    let left = desk.leave_2(tie, me, root, spare, Leaving::Commit);
+    let is_told = ends_with(tie, desk, me, root, spare);
+    let left = desk.leave(tie, me, root, others, Leaving::Commit);
     match left {
-        Left::Answered(Reply::Done) => is_told && spare.inode() == ROOT + 1,
+        Left::Answered(Reply::Done) => is_told,
         other => {
             drop(other);
             false
         }
     }
+}
+
+/// Does this with the other slot behind this lock.
+fn makes_behind<N: Shape>(
+    rt: &impl Wait,
+    alloc: Global,
+    tie: &Tie<N, Account>,
+    desk: &mut Desk<N>,
+    me: &mut Rider<N>,
+    root: &mut Locked<N>,
+    lock: &Mutex<Locked<N>>,
+    spare: u64,
+) -> bool
+    ensures { IsTrue result → me.new.doing ≡ None }
+{
+    let mut others = Places::new();
+    others.push(Some(lock.lock(rt)));
+    makes(alloc, tie, desk, me, root, &mut others, spare)
 }
 
 /// Compiles only if the value may go to another thread.
@@ -96,7 +118,7 @@ fn begins<N: Shape + Send>(rt: &impl Wait, alloc: Global, blank: Blank<Account>)
     else {
         return false;
     };
-    let Some(mut spare) = slots.pop() else {
+    let Some(spare) = slots.pop() else {
         return false;
     };
     let Some(root) = slots.get_mut(0) else {
@@ -113,10 +135,13 @@ fn begins<N: Shape + Send>(rt: &impl Wait, alloc: Global, blank: Blank<Account>)
     sent(&spare);
     let child = desk.spawn(&tie, &mut me);
     let Client { mut rider } = me;
-    if !makes(alloc, &tie, &mut desk, &mut rider, root, &mut spare) {
+    let number = spare.number();
+    let lock = Mutex::new(spare);
+    if !makes_behind(rt, alloc, &tie, &mut desk, &mut rider, root, &lock, number) {
         for _ in rt.forever() {}
         unreachable!()
     }
+    let spare = lock.into_inner();
     clients.push_reserved(Client { rider });
     let has_child = match child {
         Ok(child) => {
@@ -126,7 +151,7 @@ fn begins<N: Shape + Send>(rt: &impl Wait, alloc: Global, blank: Blank<Account>)
         Err(_) => false,
     };
     match close(&tie, desk, clients) {
-        Ok(history) => has_child && history.entries().len() == 3,
+        Ok(history) => { has_child && spare.inode() == ROOT + 1 && history.entries().len() == 3 }
         Err(_back) => {
             for _ in rt.forever() {}
             unreachable!()

@@ -19,7 +19,7 @@
 //! | ll_policy | | all of `Policy`: `policy` |
 //! | ll_audit | all but `audit` | `audit`; `save`, `run_audit` with devices that fail: `saved` |
 //! | ll_client | | `Blank`, `Tie`, `Keeper`, `Pass`: `tie` |
-//! | | | `open`, `connect`, `spawn`; `begin`, `enter`, `next_step`, `leave_2`: `desk` |
+//! | | | `open`, `connect`, `spawn`; `begin`, `enter`, `next_step`, `leave`: `desk` |
 //! | ll_journal | | `Journal::new`, `connect`, `client_step`; `begin`, which takes none: `journal` |
 //! | ll_walk | | `Table::open`, `connect`, `call`: `threads` |
 //! | ll_calls | | `Tree::open`, `connect`, `meet`, `close` and calls: `clients`, `shared_tree` |
