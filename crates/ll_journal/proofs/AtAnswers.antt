@@ -34,7 +34,7 @@ use Rattle.ll_laws.proofs.StepGrowth.{gone}
 use Rattle.ll_laws.proofs.Tests.{both, is_nil, not_true}
 use Rattle.ll_journal.specs.declared.journal.Journal.TheInside.{Inside}
 use Rattle.ll_journal.specs.Book.{Seat, Book, inode_in, has_mark, slot_of}
-use Rattle.ll_journal.specs.Decidings.{IsEndAt}
+use Rattle.ll_journal.specs.Performed.{IsEndAt}
 use Rattle.ll_journal.specs.WalkEnds.{is_lent, spare_of}
 use Rattle.ll_journal.specs.Kept.{IsKept, world_of, book_of, spares_of}
 use Rattle.ll_journal.specs.declared.seat.Ended.{Ended}

@@ -16,7 +16,7 @@ use Rattle.ll_seq.specs.declared.found.Spot.{Spot}
 use Rattle.ll_laws.specs.Walk.{Walk}
 use Rattle.ll_laws.specs.World.{overtaken}
 use Rattle.ll_journal.specs.Book as book
-use Rattle.ll_journal.specs.Decidings.{IsEndAt, moved_list}
+use Rattle.ll_journal.specs.Performed.{IsEndAt, moved_list}
 use Rattle.ll_journal.specs.declared.decide_end.Moved.{Moved}
 use Rattle.ll_journal.proofs.Overtaking.{or_false, overtaken_seat}
 

@@ -37,7 +37,7 @@ use Rattle.ll_journal.specs.declared.journal.Journal.TheInside.{Inside}
 use Rattle.ll_journal.specs.Book.{Seat, Book, Spares, inode_in, slot_of, held_of, mark_of}
 use Rattle.ll_journal.specs.Direct.{Answers, LeavesSlot}
 use Rattle.ll_journal.specs.Files.{ComesOn, IsFreeOn, LetsGo, Serves, on_bytes, on_file, unopened}
-use Rattle.ll_journal.specs.Starving.{Starves}
+use Rattle.ll_journal.specs.Direct.{Starves}
 use Rattle.ll_journal.specs.Kept.{AreSeated, IsKept, walks_from, world_of, book_of, spares_of}
 use Rattle.ll_journal.proofs.Answered.{world_is, kept_answered}
 use Rattle.ll_journal.proofs.FileCalls.{closed}

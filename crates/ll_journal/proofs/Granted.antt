@@ -10,7 +10,7 @@ use Rattle.ll_seq.specs.declared.reply.Reply.TheVariants as replies
 use Rattle.ll_seq.specs.State.{State}
 use Rattle.ll_seq.specs.Step.{step, first_or, refusals, client_of}
 use Rattle.ll_laws.proofs.Gain.{done_of}
-use Rattle.ll_journal.specs.Starving.{is_refusal}
+use Rattle.ll_journal.specs.Direct.{is_refusal}
 
 abbrev pub AreRefusals : List Reply → Type 0
 AreRefusals rs = AllByRecursion (λ r. is_refusal r ≡ true) rs

@@ -42,7 +42,7 @@ use Rattle.ll_seq.specs.Step.{step, refusals, client_of}
 use Rattle.ll_journal.specs.declared.alone.RecordCall.{RecordCall}
 use Rattle.ll_journal.specs.declared.alone.RecordCall.TheVariants as asked
 use Rattle.ll_journal.specs.Own.{Comes, IsFreeOwn}
-use Rattle.ll_journal.specs.Starving.{is_refusal}
+use Rattle.ll_journal.specs.Direct.{is_refusal}
 use Rattle.ll_journal.proofs.Shown.{step_refused, step_done}
 use Rattle.ll_journal.proofs.Starved.{both_refuse, one_refusal, only_memory, step_granted, when_err}
 

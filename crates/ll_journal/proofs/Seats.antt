@@ -23,6 +23,7 @@ use Rattle.ll_journal.specs.declared.seat.Seat.TheInside.{Inside}
 use Rattle.ll_journal.specs.declared.station.Station.TheVariants as station
 use Rattle.ll_journal.specs.Book as book
 use Rattle.ll_journal.specs.Stations.{station_at, station_of}
+use Rattle.ll_journal.specs.Stations.{path_by}
 use Rattle.ll_journal.specs.Seated.{granted, depth_of, last_of, leg_of, position_at, seat_of, Fits, FitSplit, FitAt}
 use Rattle.ll_journal.specs.Seated.{AreShort, StandsAt, none_left, name_on, turn_at, next_in, here_in, entered}
 use Rattle.ll_journal.specs.Seated.{lower, gone_down, split}
@@ -178,14 +179,7 @@ fit_turn stage.Split seat call fit =
       | false ↦ fit.first
     ]
 
--- the path on which the leg in turn goes some way
-abbrev pub whole_in : Turn → Call → Path
-whole_in turns.No call = []
-whole_in turns.Trunk call = first_path call
-whole_in turns.First call = first_path call
-whole_in turns.Second call = second_path call
-
-way_begins : (t : Turn) (call : Call) → (more : Path) × (path_in t call ++ more ≡ whole_in t call)
+way_begins : (t : Turn) (call : Call) → (more : Path) × (path_in t call ++ more ≡ path_by t call)
 way_begins turns.No call = ([], refl)
 way_begins turns.Trunk call =
     let way = common_left (parent (first_path call)) (parent (second_path call)) in
@@ -249,14 +243,14 @@ module _ (seat : Inside) (call : Call) (is : seat.call ≡ Some call) (t : Turn)
         by turns.First e = refl
         by turns.Second e = refl
 
-    pub place_is : IsPlace (whole_in t call) (kept_in t seat).ahead.place
+    pub place_is : IsPlace (path_by t call) (kept_in t seat).ahead.place
     place_is = let way = way_begins t call in
-        longer (path_in t call) way.0 (whole_in t call) (kept_in t seat).ahead.place way.1 fits_there.ahead.place
+        longer (path_in t call) way.0 (path_by t call) (kept_in t seat).ahead.place way.1 fits_there.ahead.place
 
-    pub name_there : name_on (whole_in t call) (kept_in t seat).ahead ≡ next_in (seat_of seat)
+    pub name_there : name_on (path_by t call) (kept_in t seat).ahead ≡ next_in (seat_of seat)
     name_there =
         let way = way_begins t call in
-        name_is (path_in t call) way.0 (whole_in t call) (depth_of (chain_in t seat)) (kept_in t seat).ahead way.1
+        name_is (path_in t call) way.0 (path_by t call) (depth_of (chain_in t seat)) (kept_in t seat).ahead way.1
         fits_there.ahead
         ∙ sym (next_is ∙ ap (option_and_then (λ (leg : Leg). slice_get leg.ahead 0)) leg_is
         ∙ next_ahead (path_in t call) (depth_of (chain_in t seat)))
@@ -357,19 +351,19 @@ module _ (seat : Inside) (call : Call) (is : seat.call ≡ Some call) (t : Turn)
       let s = some in
       omega arith
 
-  pub place_now : IsPlace (whole_in t call) (kept_in t seat).ahead.place
+  pub place_now : IsPlace (path_by t call) (kept_in t seat).ahead.place
   place_now = place_is seat call is t found fit there
 
-  pub name_now : IsSome (slice_get (whole_in t call) (kept_in t seat).ahead.place.depth)
+  pub name_now : IsSome (slice_get (path_by t call) (kept_in t seat).ahead.place.depth)
   name_now =
       let way = way_begins t call in
       let lt = subst (λ (k : ℕ). k < length (path_in t call)) (sym fits_now.ahead.depth) within in
       subst (λ (o : Option Name). IsSome o)
-      (sym (get_longer (path_in t call) way.0 (whole_in t call) (kept_in t seat).ahead.place.depth way.1 lt
+      (sym (get_longer (path_in t call) way.0 (path_by t call) (kept_in t seat).ahead.place.depth way.1 lt
       ∙ ap (slice_get (path_in t call)) fits_now.ahead.depth ∙ name.1)) refl
 
   module _ (inode : ℕ) (leg : kept.Leg) (stands : StandsAt seat.client.domain (chain_in t seat ++ inode ∷ []) leg)
-      (place : IsPlace (whole_in t call) leg.ahead.place)
+      (place : IsPlace (path_by t call) leg.ahead.place)
       (depth : leg.ahead.place.depth ≡ (kept_in t seat).ahead.place.depth + 1)
       (len : leg.ahead.len ≡ (kept_in t seat).ahead.len) where
     fits_below : Fits seat.client.domain (path_in t call) leg
@@ -384,7 +378,7 @@ module _ (seat : Inside) (call : Call) (is : seat.call ≡ Some call) (t : Turn)
           some = omega (arith, long);
           masks = subst (AreMasks leg.masks seat.client.domain) (sym stands.chain) stands.masks;
           ahead = record {
-            place = shorter (path_in t call) way.0 (whole_in t call) leg.ahead.place way.1
+            place = shorter (path_in t call) way.0 (path_by t call) leg.ahead.place way.1
                 (omega (arith, depth, old, lt)) place;
             depth = omega (arith, depth, old, long, s);
             len = len ∙ fits_now.ahead.len;

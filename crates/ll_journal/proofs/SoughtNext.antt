@@ -85,6 +85,12 @@ module _ (facts : Map nat_cmp Fact) (from to : Held) where
       by (Some k) e check = let same : k ≡ i = cc in
           check ∙ ap (λ n. cond (not (to.inode == n)) Astray by_mark) same
 
+-- the slots are those of a descent that is told
+pub not_astray : (b : Book) (number k l : ℕ) → IsNext b number k l → IsAstrayBelow b number k l → ⊥
+not_astray b number k l next astray =
+    let other = astray.1 next.leg next.in_turn next.from_here in
+    other.2 (next.to_there ∙ cc (sym next.further_is ∙ other.1))
+
 -- ---- the slot that a look tells
 
 module _ (j : Inside) (h : IsKept j) (number place : ℕ) (seat : Seat) (at : slice_get j.seats.items place ≡ Some seat)
@@ -106,11 +112,6 @@ module _ (j : Inside) (h : IsKept j) (number place : ℕ) (seat : Seat) (at : sl
       from_here = next.from_here;
     }
 
-    not_astray : IsAstrayBelow (book_of j) number k l → ⊥
-    not_astray astray =
-        let other = astray.1 next.leg next.in_turn next.from_here in
-        other.2 (next.to_there ∙ cc (sym next.further_is ∙ other.1))
-
     pub only_mark : check_descend j.table.facts seat from to ≡ by_mark j.table.facts from to
     only_mark = by (directory_below j.table.facts seat from) refl
       where
@@ -120,7 +121,7 @@ module _ (j : Inside) (h : IsKept j) (number place : ℕ) (seat : Seat) (at : sl
             check_descend j.table.facts seat from to ≡ cond (not b) Astray (by_mark j.table.facts from to)
             → check_descend j.table.facts seat from to ≡ by_mark j.table.facts from to) [
               | true ↦ λ e. e
-              | false ↦ λ e. absurd (not_astray
+              | false ↦ λ e. absurd (not_astray (book_of j) number k l next
                   (down_astray j h number place seat at numbered k l from to lent_from lent_to e))
             ] (by_below j.table.facts from to seat i is)
 

@@ -12,14 +12,16 @@ use Rattle.ll_laws.proofs.Gain.{after_tree, start_tree}
 use Rattle.ll_laws.specs.Walk.{Walk, Leg, legs, marks, turn}
 use Rattle.ll_laws.specs.World.{World, shown}
 use Rattle.ll_journal.specs.declared.journal.Journal.TheInside.{Inside}
-use Rattle.ll_journal.specs.Book.{Seat, has_mark, inode_in}
+use Rattle.ll_node.specs.declared.held.Held.{Held}
+use Rattle.ll_journal.specs.Book.{Seat, has_mark, inode_in, slot_of}
 use Rattle.ll_journal.specs.Kept.{IsKept, book_of, seat_at, world_of}
 use Rattle.ll_journal.specs.Needs.{slots_in}
 use Rattle.ll_journal.specs.Seated.{here_in}
-use Rattle.ll_journal.specs.Steps.{leg_in_turn}
+use Rattle.ll_journal.specs.Steps.{IsInTurn, leg_in_turn}
 use Rattle.ll_journal.proofs.Descending.{living_placed, turn_stands}
 use Rattle.ll_journal.proofs.Entering.{no_walk, walk_here}
 use Rattle.ll_journal.proofs.Gathering.{Gathers, few_gathered, gathers_legs, gathers_same, none_gathered}
+use Rattle.ll_journal.proofs.LentAfter.{inode_is}
 use Rattle.ll_journal.proofs.Looking.{index_there}
 
 -- what is found of an inode: the slot where it lies
@@ -129,6 +131,19 @@ module _ (j : Inside) (h : IsKept j) (number place : ℕ) (seat : Seat) (at : sl
           × ((slot : ℕ) × (get j.table.places inode ≡ Some slot))
       by None is f = absurd (cc f)
       by (Some walk) is f = by_turn walk is (turn walk.at) refl f
+
+  module _ (inode : ℕ) (here : here_in seat ≡ Some inode) (slot : ℕ) (held : Held)
+      (lent : held ≡ slot_of (book_of j) slot) where
+    pub in_turn_here : inode ≡ held.inode → IsInTurn (book_of j) number slot
+    in_turn_here same leg is =
+        let known = leg_here inode here in
+        sym (inode_is (book_of j) slot held lent) ∙ sym same ∙ sym known.2
+        ∙ ap (λ (l : Leg). l.here) (same_Some known.0 leg (sym known.1 ∙ is))
+
+    pub only_in_turn : IsInTurn (book_of j) number slot → inode ≡ held.inode
+    only_in_turn at =
+        let known = leg_here inode here in
+        sym (inode_is (book_of j) slot held lent ∙ at known.0 known.1 ∙ known.2)
 
   module _ (inode : ℕ) (here : here_in seat ≡ Some inode) (o : Option ℕ) (found : o ≡ get j.table.places inode) where
     pub turn_lies : IfSome o (λ slot. (leg : Leg) × (leg_in_turn w number ≡ Some leg)

@@ -31,7 +31,7 @@ use Rattle.ll_journal.specs.declared.files.FileCall.{FileCall}
 use Rattle.ll_journal.specs.declared.files.FileCall.TheVariants as files
 use Rattle.ll_journal.specs.Direct.{TakesMemory}
 use Rattle.ll_journal.specs.Files.{on_file}
-use Rattle.ll_journal.specs.Starving.{Starves, is_refusal, succeeds}
+use Rattle.ll_journal.specs.Direct.{Starves, is_refusal, succeeds}
 use Rattle.ll_journal.proofs.Shown.{step_done}
 
 -- what is done is no refusal

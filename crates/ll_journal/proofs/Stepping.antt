@@ -41,7 +41,7 @@ use Rattle.ll_journal.specs.declared.direct.Made.TheVariants as answers
 use Rattle.ll_journal.specs.declared.journal.Journal.TheInside.{Inside}
 use Rattle.ll_journal.specs.Book.{Seat, Book, Spares}
 use Rattle.ll_journal.specs.Direct.{Answers, LeavesSlots, TakesMemory}
-use Rattle.ll_journal.specs.Starving.{Starves}
+use Rattle.ll_journal.specs.Direct.{Starves}
 use Rattle.ll_journal.specs.Kept.{AreSeated, IsKept, seat_at, walks_from, world_of, book_of, spares_of}
 use Rattle.ll_node.specs.InodeTable.{Table, IsTable}
 use Rattle.ll_journal.specs.Own.{Asks, IsOwn, Comes, IsFreeOwn, Spawns, SpawnTells}

@@ -11,7 +11,7 @@ use Rattle.ll_node.specs.Lent.{Misses}
 use Rattle.ll_node.specs.InodeTable.{IsTable, Table}
 use Rattle.ll_node.specs.Accounts.{account, accounts}
 use Rattle.ll_node.proofs.Accounted.{account_held, account_inode, all_lent}
-use Rattle.ll_journal.specs.Decidings.{HasContent, Lends}
+use Rattle.ll_journal.specs.Performed.{HasContent, Lends}
 use Rattle.ll_journal.proofs.LentSlots.{got_of_index}
 
 -- a slot of this inode is among these

@@ -26,7 +26,10 @@ use Rattle.ll_journal.specs.declared.check_step.StepCheck.TheVariants.{NotNow, A
 use Rattle.ll_journal.specs.CommitCheck.{CommitCheck}
 use Rattle.ll_journal.specs.CommitCheck as stops
 use Rattle.ll_journal.specs.Book.{Seat}
+use Rattle.ll_journal.specs.Stations.{path_by, station_on}
+use Rattle.ll_journal.specs.declared.onward.NextName.{NextName}
 use Rattle.ll_journal.specs.Seated.{call_in, first_here_in, here_in, is_at_ends, next_in, second_here_in}
+use Rattle.ll_journal.specs.Stations.{station_of}
 
 abbrev pub goes_on : Seat → Bool
 goes_on seat = option_map_or (λ (walk : Walk). not walk.stale) seat.walk false
@@ -199,3 +202,10 @@ Stops facts full marked slots lent seat stop =
     ⊎ ((goes_on seat ≡ true) × (is_all_lent lent seat ≡ false) × (stop ≡ stops.Astray))
     ⊎ ((goes_on seat ≡ true) × (is_all_lent lent seat ≡ true)
     × StopsBy facts full marked slots lent seat (next_in seat) stop)
+
+-- what a seat tells of its walk's next name
+abbrev pub TellsNext : Seat → Option NextName → Type 0
+TellsNext seat None = next_in seat ≡ None
+TellsNext seat (Some name) =
+    (call : Call) × (call_in seat ≡ Some call) × (next_in seat ≡ slice_get (path_by name.turn call) name.depth)
+    × (goes_on seat ≡ true → station_of seat.walk ≡ station_on name.turn)

@@ -19,7 +19,7 @@ use Rattle.ll_journal.specs.declared.progress.Ending.{Ending}
 use Rattle.ll_journal.specs.declared.progress.Ending.TheVariants as ending
 use Rattle.ll_journal.specs.Book.{Book, inode_in}
 use Rattle.ll_journal.specs.Direct.{FreesSlot}
-use Rattle.ll_journal.specs.Starving.{Starves}
+use Rattle.ll_journal.specs.Direct.{Starves}
 
 -- The outcome and the world are the step's. Astray is no outcome of a step: then nothing changes. If memory runs out,
 -- for a call that nothing refuses, the walk ends without an answer in the history
@@ -33,51 +33,21 @@ Ends b number ending.NoMemory b' = Starves b.world (Commit number) × (b'.world 
 
 -- the nodes with last names of its paths that the call may change or report on
 abbrev pub nodes_at_end : State → Call → List ℕ
-nodes_at_end s (call.Make kind target) = []
 nodes_at_end s (call.Open mode target) = last_node s (path_of target)
-nodes_at_end s (call.Read fd offset count) = []
-nodes_at_end s (call.Write fd offset bytes) = []
-nodes_at_end s (call.Ftruncate fd size) = []
-nodes_at_end s (call.Close fd) = []
 nodes_at_end s (call.Truncate target size) = last_node s (path_of target)
 nodes_at_end s (call.ReadDir target) = last_node s (path_of target)
 nodes_at_end s (call.Stat target) = last_node s (path_of target)
-nodes_at_end s (call.Exec target) = []
 nodes_at_end s (call.Unlink target) = last_node s (path_of target)
 nodes_at_end s (call.Rmdir target) = last_node s (path_of target)
 nodes_at_end s (call.Rename from into) = last_node s (path_of into)
 nodes_at_end s (call.RenameNoreplace from into) = last_node s (path_of into)
-nodes_at_end s (call.Exchange from into) = []
-nodes_at_end s (call.Link from into) = []
-nodes_at_end s (call.Ruleset rights) = []
-nodes_at_end s (call.Allow number target rights) = []
-nodes_at_end s (call.Confine number) = []
-nodes_at_end s call.Spawn = []
-nodes_at_end s call.Connect = []
+nodes_at_end s other = []
 
 -- the call creates a node, unless something refuses it
 abbrev pub would_make : State → Call → Bool
 would_make s (call.Make kind target) = true
 would_make s (call.Open mode target) = is_none (named s (path_of target))
-would_make s (call.Read fd offset count) = false
-would_make s (call.Write fd offset bytes) = false
-would_make s (call.Ftruncate fd size) = false
-would_make s (call.Close fd) = false
-would_make s (call.Truncate target size) = false
-would_make s (call.ReadDir target) = false
-would_make s (call.Stat target) = false
-would_make s (call.Exec target) = false
-would_make s (call.Unlink target) = false
-would_make s (call.Rmdir target) = false
-would_make s (call.Rename from into) = false
-would_make s (call.RenameNoreplace from into) = false
-would_make s (call.Exchange from into) = false
-would_make s (call.Link from into) = false
-would_make s (call.Ruleset rights) = false
-would_make s (call.Allow number target rights) = false
-would_make s (call.Confine number) = false
-would_make s call.Spawn = false
-would_make s call.Connect = false
+would_make s other = false
 
 -- the slot reserved for the client
 abbrev pub spare_of : Book → ℕ → ℕ

@@ -1,11 +1,11 @@
 //! Checks whether a step may be made, given the lent slots.
 
-ghost use Rattle.std.specs.Prelude.{◌≡◌, ◌==◌, true, Some};
+ghost use Rattle.std.specs.Prelude.{◌≡◌, ◌==◌, true, Some, IfSome};
 ghost use Rattle.std.specs.Option.{option_map_or};
 ghost use Rattle.ll_rights.specs.Map.{get};
 ghost use Rattle.ll_seq.specs.State.{Name};
 ghost use Rattle.ll_journal.specs.Checks as checks;
-ghost use Rattle.ll_journal.specs.Onward.{Names};
+ghost use Rattle.ll_journal.specs.Stations.{Names};
 ghost use Rattle.ll_journal.specs.Seated.{call_in, next_in};
 
 use crate::onward::Onward;
@@ -113,20 +113,24 @@ fn check_known(table: &Inodes, seat: &Seat, from: &Held, to: &Held, inode: u64) 
     }
 }
 
-/// Checks a descent with a hint: the name at this depth of the call's first path names this inode. If that is the next
-/// name, it isn't looked up.
-pub(crate) fn check_onward(
+/// Checks a descent with a hint, if there is one: its name names its inode. If that is the next name, it isn't looked
+/// up.
+pub(crate) fn check_by_hint(
     table: &Inodes,
     seat: &Seat,
     from: &Held,
     to: &Held,
-    on: Onward,
+    hint: Option<Onward>,
 ) -> StepCheck
-    requires { (call : Call) → call_in seat.now ≡ Some call → Names call from.now on.depth on.inode }
+    requires { IfSome hint (λ on. (call : Call) → call_in seat.now ≡ Some call
+        → Names call from.now on.name on.inode) }
     ensures { result ≡ checks.check_descend table.now.facts seat.now from.now to.now }
 {
-    match seat.depth_ahead() {
-        Some(depth) if depth == on.depth => check_known(table, seat, from, to, on.inode),
+    let Some(on) = hint else {
+        return check_descend(table, seat, from, to);
+    };
+    match seat.name_ahead() {
+        Some(name) if name == on.name => check_known(table, seat, from, to, on.inode),
         _ => check_descend(table, seat, from, to),
     }
 }

@@ -25,7 +25,7 @@ ghost use Rattle.ll_node.specs.Accounts.{accounts};
 ghost use Rattle.ll_node.specs.InodeTable.{IsTable};
 ghost use Rattle.ll_laws.specs.World as world;
 ghost use Rattle.ll_journal.specs.Book as book;
-ghost use Rattle.ll_journal.specs.Decidings.{HasContent, IsEndAt, Lends, moved_list};
+ghost use Rattle.ll_journal.specs.Performed.{HasContent, IsEndAt, Lends, moved_list};
 
 use crate::ending::overtake;
 use crate::seat::{Ended, Seat};

@@ -11,7 +11,7 @@ ghost use Rattle.ll_laws.specs.World.{has_any};
 ghost use Rattle.ll_journal.specs.Checks.{goes_on};
 ghost use Rattle.ll_journal.specs.Kept.{seat_at};
 
-use crate::check_step::{StepCheck, check_descend, check_enter, check_restart, directory_below};
+use crate::check_step::{StepCheck, check_enter, check_restart};
 use crate::progress::Progress;
 use crate::seat::Seat;
 use crate::station::Station;
@@ -108,7 +108,7 @@ fn may_set_out(seat: &Seat, call: &Call) -> bool
 impl Journal {
     ghost use Rattle.ll_journal.specs.Book.{Spares, new_book, slot_of};
     ghost use Rattle.ll_journal.specs.Stations.{station_in};
-    ghost use Rattle.ll_journal.specs.Steps.{Does, GoesDown, IsAstrayAt, IsAstrayAtTop, IsAstrayBelow, IsNext};
+    ghost use Rattle.ll_journal.specs.Steps.{Does, GoesDown, IsAstrayAt, IsAstrayAtTop, IsNext};
     ghost use Rattle.ll_laws.specs.World.{Begun, NotNow, Stands, advance};
     ghost use Rattle.ll_laws.specs.declared.step.Step.TheVariants.{Begin, ClientStep, Descend, Fork, Restart};
 
@@ -237,71 +237,6 @@ impl Journal {
         to.node.set_mark(Some(client));
     }
 
-    /// Makes a descent of the client's walk. The slots are those of the current leg's directory, and of the directory
-    /// that the next name names. Takes no memory.
-    pub fn descend(
-        &mut self,
-        client: u64,
-        from_slot: u64,
-        from: &mut Held,
-        to_slot: u64,
-        to: &mut Held,
-    ) -> Progress
-        requires from { from.old ≡ slot_of self.old from_slot }
-        requires to { to.old ≡ slot_of self.old to_slot }
-        ensures does { Does self.old (Descend client) result self.new }
-        ensures stands { (inode : ℕ) → result ≡ Progress.Stands inode
-            → (to.new.inode ≡ inode) × (to.new.node.mark ≡ Some client) }
-        ensures from { from.new ≡ slot_of self.new from_slot }
-        ensures to { to.new ≡ slot_of self.new to_slot }
-        ensures spares { Spares self.old self.new (from_slot ∷ to_slot ∷ []) }
-        ensures rest { self.new ≡ record self.old { world = self.new.world } }
-        ensures astray { result ≡ Progress.Astray → IsAstrayBelow self.old client from_slot to_slot }
-    {
-        let Some(place) = place_of(&self.seats, client) else {
-            return Progress::NotNow;
-        };
-        match check_descend(&self.table, &self.seats[place], from, to) {
-            StepCheck::NotNow => return Progress::NotNow,
-            StepCheck::Astray => return Progress::Astray,
-            StepCheck::Go => {}
-        }
-        self.go_down(place, client, from_slot, from, to_slot, to);
-        Progress::Stands(to.inode)
-    }
-
-    /// Makes a descent to the slot that `next_slot` returned for the first slot, without looking the name up again.
-    /// Takes no memory.
-    pub fn descend_to(
-        &mut self,
-        client: u64,
-        from_slot: u64,
-        from: &mut Held,
-        to_slot: u64,
-        to: &mut Held,
-    ) -> Progress
-        requires from { from.old ≡ slot_of self.old from_slot }
-        requires to { to.old ≡ slot_of self.old to_slot }
-        requires next { IsNext self.old client from_slot to_slot }
-        ensures does { Does self.old (Descend client) result self.new }
-        ensures stands { (inode : ℕ) → result ≡ Progress.Stands inode
-            → (to.new.inode ≡ inode) × (to.new.node.mark ≡ Some client) }
-        ensures from { from.new ≡ slot_of self.new from_slot }
-        ensures to { to.new ≡ slot_of self.new to_slot }
-        ensures spares { Spares self.old self.new (from_slot ∷ to_slot ∷ []) }
-        ensures rest { self.new ≡ record self.old { world = self.new.world } }
-        ensures not_astray { result ≢ Progress.Astray }
-    {
-        let Some(place) = place_of(&self.seats, client) else {
-            return Progress::NotNow;
-        };
-        if to.node.mark().is_some() {
-            return Progress::NotNow;
-        }
-        self.go_down(place, client, from_slot, from, to_slot, to);
-        Progress::Stands(to.inode)
-    }
-
     /// Returns where the client's walk is.
     pub fn station(&self, client: u64) -> Station
         ensures { result ≡ station_in self.now.world client }
@@ -320,13 +255,8 @@ impl Journal {
         ensures within { IfSome result (λ next. next < length self.now.inodes) }
         ensures none { IfNone result (¬ GoesDown self.now client slot) }
     {
-        let Some(place) = place_of(&self.seats, client) else {
-            return None;
-        };
-        let Some(inode) = directory_below(&self.table, &self.seats[place], here) else {
-            return None;
-        };
-        self.table.slot(inode)
+        let on = self.onward(client, slot, here)?;
+        Some(on.slot)
     }
 
     /// Splits the client's walk into one leg for each of its two paths. Takes no memory and no slot.

@@ -1,6 +1,6 @@
 //! The slots that a walk's next step needs, so that its driver can lend them.
 
-ghost use Rattle.std.specs.Prelude.{◌≡◌, ◌<◌, ◌≤◌, ℕ, length, false, Some, None, IfSome, IfNone};
+ghost use Rattle.std.specs.Prelude.{◌≡◌, ◌<◌, ◌≤◌, ℕ, length, false, true, Some, None, IfSome, IfNone};
 ghost use Rattle.std.specs.List.{AllByRecursion};
 ghost use Rattle.ll_rights.specs.Map.{get};
 ghost use Rattle.ll_seq.specs.State.{root};
@@ -42,6 +42,21 @@ impl Journal {
             unreachable!()
         };
         slot
+    }
+
+    /// Whether the walk's current leg, if it has one, is in this slot's directory.
+    pub(crate) fn is_in_turn(&self, client: u64, slot: u64, here: &Held) -> bool
+        requires { here.now ≡ slot_of self.now slot }
+        ensures yes { result ≡ true → IsInTurn self.now client slot }
+        ensures no { result ≡ false → ¬ IsInTurn self.now client slot }
+    {
+        let Some(place) = place_of(&self.seats, client) else {
+            return true;
+        };
+        let Some(inode) = self.seats[place].here() else {
+            return true;
+        };
+        inode == here.inode
     }
 
     /// Returns the slot of the directory of the walk's current leg.

@@ -3,6 +3,7 @@
 ghost use Rattle.std.specs.Prelude.{◌≡◌};
 
 use crate::journal::Journal;
+use crate::onward::Onward;
 use crate::slots::Slots;
 use crate::station::Station;
 use ll_node::Held;
@@ -12,12 +13,13 @@ use ll_node::Held;
 pub enum Next {
     /// No walk is under way.
     Nothing,
+    /// The walk's current leg isn't in this directory.
+    Elsewhere,
     /// Restart the stale walk. The slots are those of the directories that it has marked.
     Restart(Slots),
     /// Enter the root, which is in this slot.
     Enter(u64),
-    /// Descend to the directory in this slot.
-    Descend(u64),
+    Descend(Onward),
     /// Fork: split the walk of two paths. It needs no slot.
     Fork,
     /// Commit: the walk can't go on, or each leg is at its end. These are all the slots that it may need.
@@ -26,17 +28,19 @@ pub enum Next {
 
 impl Journal {
     ghost use Rattle.ll_journal.specs.Book.{slot_of};
-    ghost use Rattle.ll_journal.specs.NextStep.{CanBeLent, ComesNext};
+    ghost use Rattle.ll_journal.specs.NextStep.{CanBeLent, ComesNext, IsNamed};
+    ghost use Rattle.ll_journal.specs.Stations.{call_of};
 
-    /// Returns the next step of the client's walk, given the slot of the directory of its current leg. (Above the root
-    /// any slot will do. The step may still have to wait for other walks.)
+    /// Returns the next step of the client's walk, if its current leg is in this slot's directory. (Above the root any
+    /// slot will do. The step may still have to wait for other walks.)
     pub fn next_step(&self, client: u64, slot: u64, here: &Held) -> Next
         requires { here.now ≡ slot_of self.now slot }
         ensures comes { ComesNext self.now client slot result }
         ensures slots { CanBeLent self.now result }
+        ensures names { IsNamed (call_of self.now.world client) here.now result }
     {
-        if let Some(next) = self.next_slot(client, slot, here) {
-            return Next::Descend(next);
+        if let Some(on) = self.onward(client, slot, here) {
+            return Next::Descend(on);
         }
         match self.station(client) {
             Station::Idle => Next::Nothing,
@@ -44,7 +48,11 @@ impl Journal {
             Station::Above => Next::Enter(self.root_slot()),
             Station::Fork => Next::Fork,
             Station::Trunk | Station::First | Station::Second | Station::End => {
-                Next::Commit(self.end_slots(client, slot, here))
+                if self.is_in_turn(client, slot, here) {
+                    Next::Commit(self.end_slots(client, slot, here))
+                } else {
+                    Next::Elsewhere
+                }
             }
         }
     }

@@ -1,7 +1,7 @@
 //! Clients, each with its walk.
 
 ghost use Rattle.std.specs.Prelude.{◌≡◌, ◌⊎◌, ℕ, List, Option, is_ok, ◌&&◌, ◌==◌, ◌≤◌, not, false, true, None, Some};
-ghost use Rattle.std.specs.Prelude.{is_none, is_some, IfOk, OnErr, IfSome, IfNone, IsSome, option_map, slice_get};
+ghost use Rattle.std.specs.Prelude.{is_none, is_some, IfOk, OnErr, IfSome, IfNone, IsSome, option_map, if◌then◌else◌};
 ghost use Rattle.std.specs.Option.{option_map_or};
 ghost use Rattle.ll_seq.specs.Lean.{spares_memory};
 ghost use Rattle.ll_decide.specs.Masks.{AreMasks};
@@ -11,13 +11,15 @@ ghost use Rattle.ll_seq.specs.Effects.{child_of};
 ghost use Rattle.ll_laws.specs.Commits.{first_end, second_end};
 ghost use Rattle.ll_laws.specs.Walk as walks;
 ghost use Rattle.ll_laws.specs.World.{is_alone, is_walked, overtaken};
+ghost use Rattle.ll_journal.specs.Seated.{none_left};
 ghost use Rattle.ll_journal.specs.Stations.{station_of};
 ghost use Rattle.ll_node.specs.Enacting.{Scene};
 ghost use Rattle.ll_journal.specs.Performed.{EndsAs, IsAtEnd, IsFreeAtEnd, Performs, at_seat};
 
 use crate::alone::{Own, RecordCall, answer, own_call};
 use crate::decide_end::{decide_end, tell};
-use crate::leg::{Leg, Legs};
+use crate::leg::{Ahead, Leg, Legs};
+use crate::onward::NextName;
 use crate::pair::ReplyPair;
 use crate::stage::{Stage, Turn, turn_of};
 use crate::station::{Station, split_station, trunk_station};
@@ -73,8 +75,20 @@ pub(crate) struct Ended {
     pub second: Masks,
 }
 
+/// The next name of the leg whose names ahead are these.
+fn next_of(turn: Turn, ahead: Ahead) -> Option<NextName>
+    ensures { result
+        ≡ (if none_left ahead then None else Some (record { turn = turn; depth = ahead.place.depth })) }
+{
+    if ahead.is_empty() {
+        return None;
+    }
+    let depth = ahead.place.depth;
+    Some(NextName { turn, depth })
+}
+
 impl Seat {
-    ghost use Rattle.ll_journal.specs.Onward.{is_past_fork};
+    ghost use Rattle.ll_journal.specs.Checks.{TellsNext};
     ghost use Rattle.ll_journal.specs.Own.{Comes, IsFreeOwn, IsOwn};
     ghost use Rattle.ll_journal.specs.Seated.{again, call_in, entered, gone_down, is_at_ends, next_in, split};
 
@@ -238,20 +252,18 @@ impl Seat {
         }
     }
 
-    /// The index of the next name in the call's first path. None at the end of the leg, and past the fork.
-    pub(crate) fn depth_ahead(&self) -> Option<usize>
-        ensures some { IfSome result (λ depth. (call : Call) × (call_in self.now ≡ Some call)
-            × (next_in self.now ≡ slice_get (calls.first_path call) depth)) }
-        ensures none { IfNone result ((next_in self.now ≡ None) ⊎ (is_past_fork self.now.walk ≡ true)) }
+    /// The next name, by its index. None at the end of the leg.
+    pub(crate) fn name_ahead(&self) -> Option<NextName>
+        ensures { TellsNext self.now result }
     {
         if self.call.is_none() {
             return None;
         }
-        match self.stage {
-            Stage::Above => None,
-            Stage::Down if self.trunk.is_at_end() => None,
-            Stage::Down => Some(self.trunk.ahead.place.depth),
-            Stage::Split => None,
+        match turn_of(self.stage, &self.first) {
+            Turn::No => None,
+            Turn::Trunk => next_of(Turn::Trunk, self.trunk.ahead),
+            Turn::First => next_of(Turn::First, self.first.ahead),
+            Turn::Second => next_of(Turn::Second, self.second.ahead),
         }
     }
 

@@ -13,16 +13,16 @@ pub(crate) enum Stage {
     Split,
 }
 
-/// The current leg.
-#[derive(Clone, Copy)]
-pub(crate) enum Turn {
+/// The current leg of a walk: none above the root, and after the fork the first path's until that is at its end.
+#[derive(Clone, Copy, PartialEq, Eq)]
+pub enum Turn {
     No,
     Trunk,
     First,
     Second,
 }
 
-/// The current leg. After the fork it is the first path's until that is at its end.
+/// The current leg.
 pub(crate) fn turn_of(stage: Stage, first: &Leg) -> Turn
     ensures { result ≡ turn_at stage (none_left first.now.ahead) }
 {

@@ -6,7 +6,7 @@ ghost use Rattle.std.specs.Option.{option_map_or};
 ghost use Rattle.ll_laws.specs.Walk as walks;
 ghost use Rattle.ll_journal.specs.Checks as checks;
 ghost use Rattle.ll_journal.specs.Needs.{slots_in};
-ghost use Rattle.ll_journal.specs.Positions.{position_at};
+ghost use Rattle.ll_journal.specs.Stations.{position_at};
 
 use crate::position::Position;
 use crate::seat::Seat;

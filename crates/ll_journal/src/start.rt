@@ -1,7 +1,7 @@
 //! The start of a client's call.
 
 ghost use Rattle.std.specs.Prelude.{◌≡◌, []};
-ghost use Rattle.ll_journal.specs.Starts.{Starts};
+ghost use Rattle.ll_journal.specs.Direct.{Starts};
 
 use crate::direct::Made;
 use crate::journal::Journal;

@@ -14,7 +14,7 @@ use ll_seq::{Call, ClientRecord};
 
 impl Journal {
     ghost use Rattle.ll_journal.specs.Book.{inode_in, mark_of};
-    ghost use Rattle.ll_journal.specs.Positions.{position_in};
+    ghost use Rattle.ll_journal.specs.Stations.{position_in};
 
     /// Returns the client of this number.
     pub fn client(&self, client: u64) -> Option<&ClientRecord>

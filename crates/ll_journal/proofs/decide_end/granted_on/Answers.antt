@@ -2,7 +2,7 @@ use Rattle.std.proofs.Common.{ap, subst, sym, ◌∙◌}
 use Rattle.ll_path.specs.Path.{is_root}
 use Rattle.ll_path.specs.declared.target.Target.{Target}
 use Rattle.ll_seq.specs.Call.{path_of}
-use Rattle.ll_journal.specs.Decidings.{IsEndAt}
+use Rattle.ll_journal.specs.Performed.{IsEndAt}
 use Rattle.ll_journal.proofs.DecidedCalls.{granted_below}
 use Rattle.ll_journal.proofs.decide_end.granted_on.Goals as goal
 

@@ -19,7 +19,7 @@ use Rattle.ll_laws.proofs.Tests.{or_false}
 use Rattle.ll_journal.specs.declared.journal.Journal.TheInside.{Inside}
 use Rattle.ll_journal.specs.Book.{Book, Spares, slot_of}
 use Rattle.ll_journal.specs.WalkEnds.{LeavesFree}
-use Rattle.ll_journal.specs.Decidings.{moved_list}
+use Rattle.ll_journal.specs.Performed.{moved_list}
 use Rattle.ll_journal.specs.Kept.{book_of, spares_of, world_of}
 use Rattle.ll_journal.specs.Performed.{IsPerformed, at_seat}
 use Rattle.ll_journal.proofs.Advancing.{commit_replies}
