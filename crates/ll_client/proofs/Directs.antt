@@ -22,7 +22,7 @@ use Rattle.ll_laws.specs.World.{takes_gate}
 use Rattle.ll_laws.specs.Sound.{IsSound}
 use Rattle.ll_journal.specs.Book.{Book}
 use Rattle.ll_journal.specs.Direct.{Answers}
-use Rattle.ll_journal.specs.Starving.{Starves}
+use Rattle.ll_journal.specs.Direct.{Starves}
 use Rattle.ll_journal.specs.declared.direct.Made.{Made}
 use Rattle.ll_journal.specs.declared.direct.Made.TheVariants as made
 use Rattle.ll_client.specs.declared.account.Numbered.{Numbered}

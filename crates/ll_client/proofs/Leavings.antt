@@ -21,7 +21,7 @@ use Rattle.ll_laws.specs.World.{World, advance, is_full, restart, shown, without
 use Rattle.ll_laws.specs.Sound.{IsSound}
 use Rattle.ll_laws.proofs.SoundSteps.{sound_ended}
 use Rattle.ll_journal.specs.Book.{Book}
-use Rattle.ll_journal.specs.Starving.{Starves}
+use Rattle.ll_journal.specs.Direct.{Starves}
 use Rattle.ll_journal.specs.declared.progress.Progress.TheVariants as tells
 use Rattle.ll_journal.proofs.Starved.{starved_walk}
 use Rattle.ll_client.specs.declared.account.Numbered.{Numbered}

@@ -11,7 +11,7 @@ use Rattle.ll_seq.specs.State.{State}
 use Rattle.ll_seq.specs.Step.{step, first_or, refusals, client_of}
 use Rattle.ll_seq.proofs.Settled.{Settles, step-settles}
 use Rattle.ll_laws.proofs.Gain.{done_of}
-use Rattle.ll_journal.specs.Starving.{is_refusal}
+use Rattle.ll_journal.specs.Direct.{is_refusal}
 use Rattle.ll_journal.proofs.Granted.{AreRefusals, stages}
 use Rattle.ll_client.specs.Replies.{Fits, success}
 

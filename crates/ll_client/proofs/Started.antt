@@ -7,7 +7,7 @@ use Rattle.ll_laws.specs.World as world
 use Rattle.ll_laws.specs.World.{World}
 use Rattle.ll_laws.specs.Sound.{IsSound}
 use Rattle.ll_journal.specs.Book.{Book}
-use Rattle.ll_journal.specs.Starts.{Starts}
+use Rattle.ll_journal.specs.Direct.{Starts}
 use Rattle.ll_journal.specs.declared.start.Start.{Start}
 use Rattle.ll_journal.specs.declared.start.Start.TheVariants as start
 use Rattle.ll_client.specs.declared.account.Numbered.{Numbered}

@@ -17,8 +17,8 @@ use Rattle.ll_laws.specs.Walk.{Walk}
 use Rattle.ll_laws.specs.World.{World, is_full, shown}
 use Rattle.ll_journal.specs.Book.{Book}
 use Rattle.ll_journal.specs.Direct.{Answers}
-use Rattle.ll_journal.specs.Starts.{Starts}
-use Rattle.ll_journal.specs.Starving.{Starves}
+use Rattle.ll_journal.specs.Direct.{Starts}
+use Rattle.ll_journal.specs.Direct.{Starves}
 use Rattle.ll_journal.proofs.Starved.{starved_walk}
 use Rattle.ll_journal.specs.declared.direct.Made.{Made}
 use Rattle.ll_journal.specs.declared.direct.Made.TheVariants as made

@@ -12,6 +12,8 @@ use Rattle.ll_seq.specs.Passed.{has_path}
 use Rattle.ll_journal.specs.Book.{Book, slot_of}
 use Rattle.ll_journal.specs.declared.direct.Made.{Made}
 use Rattle.ll_journal.specs.declared.direct.Made.TheVariants as made
+use Rattle.ll_journal.specs.declared.progress.Progress.{Progress}
+use Rattle.ll_journal.specs.declared.progress.Progress.TheVariants as progress
 use Rattle.ll_journal.specs.declared.start.Start.{Start}
 use Rattle.ll_journal.specs.declared.start.Start.TheVariants as start
 use Rattle.ll_client.specs.Entries.{Kept, Knows}
@@ -69,3 +71,8 @@ is_at_full told = false
 -- a client after which another one couldn't come, since the history is full, knows of all that it may have
 abbrev pub knows_full : {C : Type 0} → ℕ → Result C Errno → Knows → Knows
 knows_full limit told k = if is_at_full told then record k { seen = limit } else k
+
+-- of two that a descent leads from and to: where the walk is afterwards
+abbrev pub place_after : {A : Type 0} → Progress → A → A → A
+place_after (progress.Stands inode) from to = to
+place_after other from to = from

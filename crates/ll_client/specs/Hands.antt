@@ -95,20 +95,16 @@ ended_as ending.NoMemory = left.NoMemory
 
 -- a restart neither descends nor forks
 abbrev pub restarted_as : Progress → Left
-restarted_as outcome.NotNow = left.NotNow
 restarted_as outcome.Astray = left.Astray
 restarted_as outcome.Restarted = left.Again
-restarted_as (outcome.Stands inode) = left.NotNow
-restarted_as outcome.Forked = left.NotNow
+restarted_as other = left.NotNow
 
 -- the last entry that the client knows of then, if the history has `entries` entries
 abbrev pub seen_of : Left → ℕ → ℕ → ℕ
-seen_of (left.Answered reply) seen entries = entries
-seen_of left.HistoryFull seen entries = entries
 seen_of left.NotNow seen entries = seen
 seen_of left.Astray seen entries = seen
 seen_of left.Again seen entries = seen
-seen_of left.NoMemory seen entries = entries
+seen_of ended seen entries = entries
 
 -- the last entry that the client knows of after a call that doesn't walk
 abbrev pub seen_made : {E : Type 0} → Result Made E → ℕ → ℕ → ℕ
@@ -125,17 +121,11 @@ seen_started (start.Back back) seen entries = seen
 
 abbrev pub starves_left : Left → Bool
 starves_left left.NoMemory = true
-starves_left left.NotNow = false
-starves_left left.Astray = false
-starves_left (left.Answered reply) = false
-starves_left left.Again = false
-starves_left left.HistoryFull = false
+starves_left other = false
 
 abbrev pub starves_made : {E : Type 0} → Result Made E → Bool
 starves_made (Ok made.NoMemory) = true
-starves_made (Ok (made.Replied reply)) = false
-starves_made (Ok made.HistoryFull) = false
-starves_made (Err back) = false
+starves_made other = false
 
 abbrev pub starves_started : Start → Bool
 starves_started (start.Made answer) = starves_made {E = Call} (Ok answer)

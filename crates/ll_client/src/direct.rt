@@ -21,8 +21,8 @@ use ll_journal::{Journal, Made, Unmade};
 use ll_node::Held;
 use ll_seq::Call;
 
-/// The client's last known entry after a call for itself alone. `entries` is the history's length.
-pub(crate) fn seen_alone(made: &Result<Made, Call>, seen: u64, entries: u64) -> u64
+/// The client's last known entry after a call that doesn't walk. `entries` is the history's length.
+pub(crate) fn seen_made<E>(made: &Result<Made, E>, seen: u64, entries: u64) -> u64
     ensures { result ≡ seen_made made.now seen entries }
 {
     match made {
@@ -31,38 +31,11 @@ pub(crate) fn seen_alone(made: &Result<Made, Call>, seen: u64, entries: u64) -> 
     }
 }
 
-/// The client's last known entry after a call on a descriptor. `entries` is the history's length.
-fn seen_on_file(made: &Result<Made, Unmade>, seen: u64, entries: u64) -> u64
-    ensures { result ≡ seen_made made.now seen entries }
-{
-    match made {
-        Ok(_) => entries,
-        Err(_) => seen,
-    }
-}
-
-/// Whether a call for the client alone got NoMemory.
-fn starves(made: &Result<Made, Call>) -> bool
+/// Whether the call got NoMemory.
+fn starves<E>(made: &Result<Made, E>) -> bool
     ensures { result ≡ starves_made made.now }
 {
-    match made {
-        Ok(Made::NoMemory) => true,
-        Ok(Made::Replied(_)) => false,
-        Ok(Made::HistoryFull) => false,
-        Err(_) => false,
-    }
-}
-
-/// Whether a call on a descriptor got NoMemory.
-fn starves_on_file(made: &Result<Made, Unmade>) -> bool
-    ensures { result ≡ starves_made made.now }
-{
-    match made {
-        Ok(Made::NoMemory) => true,
-        Ok(Made::Replied(_)) => false,
-        Ok(Made::HistoryFull) => false,
-        Err(_) => false,
-    }
+    matches!(made, Ok(Made::NoMemory))
 }
 
 /// Makes the client's call for itself alone in the journal. If memory runs out, adds the call to the client's wants.
@@ -135,7 +108,7 @@ fn step_on_file<N: Shape>(
         (Some call) }
 {
     let made = journal.fd_commit(number, call, slot, held);
-    let ran_out = starves_on_file(&made);
+    let ran_out = starves(&made);
     note_want(tie, keeper, number, ran_out, wants);
     made
 }
@@ -162,15 +135,11 @@ impl<N: Shape> Desk<N> {
         ensures mine { IfOk result (λ answer. Gains N.limit call me.old answer me.new) }
         ensures still { OnErr result (me.new ≡ me.old) }
     {
-        let Desk {
-            journal,
-            keeper,
-            ..
-        } = self;
+        let (journal, keeper) = (&mut self.journal, &mut self.keeper);
         let (number, seen) = (me.number, me.seen);
         take_client(tie, keeper, journal, number, seen, &mut me.pass);
         let made = step_alone(tie, keeper, journal, number, call, &mut me.wants);
-        me.seen = seen_alone(&made, seen, journal.entries().len() as u64);
+        me.seen = seen_made(&made, seen, journal.entries().len() as u64);
         me.pass = give_client(tie, keeper, journal, number, me.seen);
         made
     }
@@ -195,42 +164,16 @@ impl<N: Shape> Desk<N> {
         ensures mine { IfOk result (λ answer. Gains N.limit call me.old answer me.new) }
         ensures still { OnErr result (me.new ≡ me.old) }
     {
-        let Desk {
-            journal,
-            keeper,
-            ..
-        } = self;
-        let (number, seen) = (me.number, me.seen);
-        take_slot(
-            tie,
-            keeper,
-            journal,
-            file.number,
-            &file.held,
-            &mut file.pass,
-        );
-        take_client(tie, keeper, journal, number, seen, &mut me.pass);
-        let made = step_on_file(
-            tie,
-            keeper,
-            journal,
-            number,
-            call,
-            file.number,
-            &mut file.held,
-            &mut me.wants,
-        );
-        me.seen = seen_on_file(&made, seen, journal.entries().len() as u64);
-        put_slot(
-            tie,
-            keeper,
-            journal,
-            file.number,
-            &file.held,
-            &mut file.pass,
-            number,
-        );
-        me.pass = give_client(tie, keeper, journal, number, me.seen);
+        let (journal, keeper) = (&mut self.journal, &mut self.keeper);
+        let (client, seen) = (me.number, me.seen);
+        let Locked { number, held, pass } = file;
+        take_slot(tie, keeper, journal, *number, held, pass);
+        take_client(tie, keeper, journal, client, seen, &mut me.pass);
+        let wants = &mut me.wants;
+        let made = step_on_file(tie, keeper, journal, client, call, *number, held, wants);
+        me.seen = seen_made(&made, seen, journal.entries().len() as u64);
+        put_slot(tie, keeper, journal, *number, held, pass, client);
+        me.pass = give_client(tie, keeper, journal, client, me.seen);
         made
     }
 }

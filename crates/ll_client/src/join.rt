@@ -71,11 +71,7 @@ impl<N: Shape> Desk<N> {
         ensures seen { IfOk result (λ client. client.rider.seen ≡ length self.new.world.history) }
         ensures some { IfOk result (λ client. 0 < client.rider.seen) }
     {
-        let Desk {
-            journal,
-            keeper,
-            ..
-        } = self;
+        let (journal, keeper) = (&mut self.journal, &mut self.keeper);
         let number = match journal.connect() {
             Ok(number) => number,
             Err(errno) => return Err(errno),

@@ -29,12 +29,8 @@ fn seen_after(left: &Left, seen: u64, entries: u64) -> u64
     ensures { result ≡ seen_of left.now seen entries }
 {
     match left {
-        Left::Answered(_) => entries,
-        Left::HistoryFull => entries,
-        Left::NotNow => seen,
-        Left::Astray => seen,
-        Left::Again => seen,
-        Left::NoMemory => entries,
+        Left::Answered(_) | Left::HistoryFull | Left::NoMemory => entries,
+        Left::NotNow | Left::Astray | Left::Again => seen,
     }
 }
 
@@ -42,14 +38,7 @@ fn seen_after(left: &Left, seen: u64, entries: u64) -> u64
 fn starves(left: &Left) -> bool
     ensures { result ≡ starves_left left.now }
 {
-    match left {
-        Left::NoMemory => true,
-        Left::Answered(_) => false,
-        Left::HistoryFull => false,
-        Left::NotNow => false,
-        Left::Astray => false,
-        Left::Again => false,
-    }
+    matches!(left, Left::NoMemory)
 }
 
 /// A client's end of its walk, or restart.

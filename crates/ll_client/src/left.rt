@@ -48,10 +48,8 @@ pub(crate) fn restarted(outcome: Progress) -> Left
     ensures { result ≡ restarted_as outcome }
 {
     match outcome {
-        Progress::NotNow => Left::NotNow,
         Progress::Astray => Left::Astray,
         Progress::Restarted => Left::Again,
-        Progress::Stands(_) => Left::NotNow,
-        Progress::Forked => Left::NotNow,
+        Progress::NotNow | Progress::Stands(_) | Progress::Forked => Left::NotNow,
     }
 }

@@ -1,33 +1,23 @@
 //! Looks at the journal, which change nothing. The result may be stale as soon as the journal's lock is released.
 
-ghost use Rattle.std.specs.Prelude.{◌≡◌, ◌<◌, ◌≤◌, ℕ, length, None, Some, IfSome, IfNone};
+ghost use Rattle.std.specs.Prelude.{◌≡◌, ◌<◌, ◌≤◌, ℕ, length, IfSome, IfNone};
 ghost use Rattle.ll_seq.specs.State.{root};
 ghost use Rattle.ll_seq.specs.declared.client.Descriptor as descriptor;
-ghost use Rattle.ll_laws.specs.Walk.{Leg};
 
 use crate::Tie;
 use crate::account::Account;
 use crate::desk::Desk;
-use crate::hand::{put_slot, take_slot};
+use crate::hand::{give_client, put_slot, take_client, take_slot};
 use crate::locked::Locked;
 use crate::rider::Rider;
 use crate::shape::Shape;
-use ll_journal::{Next, Station};
+use ll_journal::Next;
 
 impl<N: Shape> Desk<N> {
     ghost use Rattle.ll_journal.specs.Book.{inode_in, slot_of};
     ghost use Rattle.ll_journal.specs.Direct.{IsOpen};
     ghost use Rattle.ll_journal.specs.InWay.{IsFreeFrom, IsInWay};
-    ghost use Rattle.ll_journal.specs.NextStep.{CanBeLent, ComesNext};
-    ghost use Rattle.ll_journal.specs.Stations.{station_in};
-    ghost use Rattle.ll_journal.specs.Steps.{leg_in_turn};
-
-    /// Returns where the client's walk is.
-    pub fn station(&self, me: &Rider<N>) -> Station
-        ensures { result ≡ station_in self.now.world me.now.number }
-    {
-        self.journal.station(me.number())
-    }
+    ghost use Rattle.ll_journal.specs.NextStep.{CanBeLent, ComesNext, IsNamed};
 
     /// Returns the slot of the root, the target of a walk's first descent.
     pub fn root_slot(&self) -> u64
@@ -35,16 +25,6 @@ impl<N: Shape> Desk<N> {
         ensures within { result < length self.now.inodes }
     {
         self.journal.root_slot()
-    }
-
-    /// Returns the slot of the directory of the walk's current leg.
-    pub fn turn_slot(&self, me: &Rider<N>) -> Option<u64>
-        ensures some { IfSome result (λ slot. (leg : Leg) × (leg_in_turn self.now.world me.now.number ≡ Some leg)
-            × (inode_in self.now slot ≡ leg.here)) }
-        ensures within { IfSome result (λ slot. slot < length self.now.inodes) }
-        ensures none { IfNone result (leg_in_turn self.now.world me.now.number ≡ None) }
-    {
-        self.journal.turn_slot(me.number())
     }
 
     /// Returns the slot of the file that the client has open under this number.
@@ -59,39 +39,30 @@ impl<N: Shape> Desk<N> {
     }
 
     /// Returns the next step of the client's walk and the slots that it needs, given the slot of the directory of its
-    /// current leg. (Above the root any slot will do. The step may still have to wait for other walks.) Takes the
-    /// slot's pass back and gives it out again unchanged.
-    pub fn next_step(&mut self, tie: &Tie<N, Account>, me: &Rider<N>, here: &mut Locked<N>) -> Next
-        ensures comes { ComesNext self.old me.now.number here.old.number result }
+    /// current leg. (Above the root any slot will do. The step may still have to wait for other walks.) Takes passes
+    /// back and gives them out again unchanged.
+    pub fn next_step(
+        &mut self,
+        tie: &Tie<N, Account>,
+        me: &mut Rider<N>,
+        here: &mut Locked<N>,
+    ) -> Next
+        ensures comes { ComesNext self.old me.old.number here.old.number result }
         ensures slots { CanBeLent self.old result }
+        ensures names { IsNamed me.old.doing here.old.held result }
         ensures same { self.new ≡ self.old }
         ensures before { here.old.held ≡ slot_of self.old here.old.number }
         ensures after { here.new ≡ here.old }
+        ensures mine { me.new ≡ me.old }
     {
-        let Desk {
-            journal,
-            keeper,
-            ..
-        } = self;
-        let number = me.number();
-        take_slot(
-            tie,
-            keeper,
-            journal,
-            here.number,
-            &here.held,
-            &mut here.pass,
-        );
-        let next = journal.next_step(number, here.number, &here.held);
-        put_slot(
-            tie,
-            keeper,
-            journal,
-            here.number,
-            &here.held,
-            &mut here.pass,
-            number,
-        );
+        let (journal, keeper) = (&mut self.journal, &mut self.keeper);
+        let (client, seen) = (me.number, me.seen);
+        let Locked { number, held, pass } = here;
+        take_slot(tie, keeper, journal, *number, held, pass);
+        take_client(tie, keeper, journal, client, seen, &mut me.pass);
+        let next = journal.next_step(client, *number, held);
+        put_slot(tie, keeper, journal, *number, held, pass, client);
+        me.pass = give_client(tie, keeper, journal, client, seen);
         next
     }
 
@@ -111,30 +82,12 @@ impl<N: Shape> Desk<N> {
         ensures before { here.old.held ≡ slot_of self.old here.old.number }
         ensures after { here.new ≡ here.old }
     {
-        let Desk {
-            journal,
-            keeper,
-            ..
-        } = self;
-        let number = me.number();
-        take_slot(
-            tie,
-            keeper,
-            journal,
-            here.number,
-            &here.held,
-            &mut here.pass,
-        );
-        let way = journal.slot_in_way(number, here.number, &here.held);
-        put_slot(
-            tie,
-            keeper,
-            journal,
-            here.number,
-            &here.held,
-            &mut here.pass,
-            number,
-        );
+        let (journal, keeper) = (&mut self.journal, &mut self.keeper);
+        let client = me.number();
+        let Locked { number, held, pass } = here;
+        take_slot(tie, keeper, journal, *number, held, pass);
+        let way = journal.slot_in_way(client, *number, held);
+        put_slot(tie, keeper, journal, *number, held, pass, client);
         way
     }
 }

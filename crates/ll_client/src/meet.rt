@@ -19,11 +19,7 @@ impl<N: Shape> Desk<N> {
         ensures low { me.old.seen ≤ length self.old.world.history }
         ensures mine { me.new ≡ record me.old { seen = max me.old.seen seen } }
     {
-        let Desk {
-            journal,
-            keeper,
-            ..
-        } = self;
+        let (journal, keeper) = (&mut self.journal, &mut self.keeper);
         let number = me.number;
         take_client(tie, keeper, journal, number, me.seen, &mut me.pass);
         me.seen = me.seen.max(seen);

@@ -11,7 +11,7 @@ ghost use Rattle.ll_client.specs.Hands.{HasCome, child_of, child_told};
 use crate::account::Account;
 use crate::client::Client;
 use crate::desk::Desk;
-use crate::direct::{seen_alone, step_alone};
+use crate::direct::{seen_made, step_alone};
 use crate::hand::{give_client, take_client};
 use crate::join::newcomer;
 use crate::shape::Shape;
@@ -91,17 +91,13 @@ impl<N: Shape> Desk<N> {
             child.rider ≡ knows child.rider.number [] [] me.new.rider.seen None) }
         ensures seen { OnOk result (me.new.rider.seen ≡ length self.new.world.history) }
     {
-        let Desk {
-            journal,
-            keeper,
-            ..
-        } = self;
+        let (journal, keeper) = (&mut self.journal, &mut self.keeper);
         let me = &mut me.rider;
         let (number, seen) = (me.number, me.seen);
         take_client(tie, keeper, journal, number, seen, &mut me.pass);
         let made = step_alone(tie, keeper, journal, number, Call::Spawn, &mut me.wants);
         let entries = journal.entries().len() as u64;
-        me.seen = seen_alone(&made, seen, entries);
+        me.seen = seen_made(&made, seen, entries);
         let child = child(tie, keeper, journal, spawned(made), entries);
         me.pass = give_client(tie, keeper, journal, number, me.seen);
         child

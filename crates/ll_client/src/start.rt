@@ -4,7 +4,7 @@ ghost use Rattle.std.specs.Prelude.{◌≡◌, ℕ, ◌≤◌, [], Some, length}
 ghost use Rattle.ll_rights.specs.declared.limits.TheConstants.{TREE_CLIENTS};
 ghost use Rattle.ll_journal.specs.Book.{Book, Spares};
 ghost use Rattle.ll_journal.specs.Direct.{LeavesSlots, TakesMemory};
-ghost use Rattle.ll_journal.specs.Starts.{Starts};
+ghost use Rattle.ll_journal.specs.Direct.{Starts};
 ghost use Rattle.ll_client.specs.Entries.{AreAccounts, starved_in, wants_entry};
 ghost use Rattle.ll_client.specs.Hands.{OnlyWants, seen_started, starved_if, starves_started};
 
@@ -24,8 +24,7 @@ fn seen_after_start(start: &Start, seen: u64, entries: u64) -> u64
 {
     match start {
         Start::Made(_) => entries,
-        Start::Begun => seen,
-        Start::Back(_) => seen,
+        Start::Begun | Start::Back(_) => seen,
     }
 }
 
@@ -33,13 +32,7 @@ fn seen_after_start(start: &Start, seen: u64, entries: u64) -> u64
 fn starves_at_start(start: &Start) -> bool
     ensures { result ≡ starves_started start.now }
 {
-    match start {
-        Start::Made(Made::NoMemory) => true,
-        Start::Made(Made::Replied(_)) => false,
-        Start::Made(Made::HistoryFull) => false,
-        Start::Begun => false,
-        Start::Back(_) => false,
-    }
+    matches!(start, Start::Made(Made::NoMemory))
 }
 
 /// Starts the client's call in the journal. If memory runs out, adds the call to the client's wants.
@@ -87,11 +80,7 @@ impl<N: Shape> Desk<N> {
         ensures rest { LeavesSlots call self.old self.new }
         ensures mine { SetsOut N.limit call me.old result me.new }
     {
-        let Desk {
-            journal,
-            keeper,
-            ..
-        } = self;
+        let (journal, keeper) = (&mut self.journal, &mut self.keeper);
         let (number, seen) = (me.number, me.seen);
         take_client(tie, keeper, journal, number, seen, &mut me.pass);
         let start = start_call(tie, keeper, journal, number, call, &mut me.wants);

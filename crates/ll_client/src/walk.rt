@@ -1,7 +1,8 @@
 //! The steps of a walk before its end. Each takes back the passes of the client and of the lent slots, makes one step
 //! of the journal, and gives the passes out again.
 
-ghost use Rattle.std.specs.Prelude.{◌≡◌, ◌≢◌, ℕ, [], ◌∷◌, Some, IfErr, OnOk, OnErr};
+ghost use Rattle.std.specs.Prelude.{◌≡◌, ◌≢◌, ℕ, [], ◌∷◌, Some, IfErr, IfSome, OnOk, OnErr};
+ghost use Rattle.ll_seq.specs.declared.call.Call.{Call};
 
 use crate::Tie;
 use crate::account::Account;
@@ -10,11 +11,21 @@ use crate::hand::{give_client, put_slot, take_client, take_slot};
 use crate::locked::Locked;
 use crate::rider::Rider;
 use crate::shape::Shape;
-use ll_journal::Progress;
+use ll_journal::{Next, Onward, Progress};
 use ll_seq::Call;
 
+/// The result of a descent: what it did, and the walk's next step, as it shows from where the walk is now.
+#[derive(Drop)]
+pub struct Descent {
+    pub progress: Progress,
+    pub next: Next,
+}
+
 impl<N: Shape> Desk<N> {
+    ghost use Rattle.ll_client.specs.Coming.{place_after};
     ghost use Rattle.ll_journal.specs.Book.{Spares, slot_of};
+    ghost use Rattle.ll_journal.specs.NextStep.{CanBeLent, ComesNext, IsNamed};
+    ghost use Rattle.ll_journal.specs.Stations.{Names};
     ghost use Rattle.ll_journal.specs.Steps.{Does, IsAstrayAtTop, IsAstrayBelow};
     ghost use Rattle.ll_laws.specs.World.{Begun, NotNow, advance};
     ghost use Rattle.ll_laws.specs.declared.step.Step.TheVariants.{Begin, Descend, Fork};
@@ -35,11 +46,7 @@ impl<N: Shape> Desk<N> {
         ensures mine { OnOk result (me.new ≡ record me.old { doing = Some call }) }
         ensures still { OnErr result (me.new ≡ me.old) }
     {
-        let Desk {
-            journal,
-            keeper,
-            ..
-        } = self;
+        let (journal, keeper) = (&mut self.journal, &mut self.keeper);
         let (number, seen) = (me.number, me.seen);
         take_client(tie, keeper, journal, number, seen, &mut me.pass);
         let begun = journal.begin(number, call);
@@ -55,11 +62,7 @@ impl<N: Shape> Desk<N> {
         ensures not_astray { result ≢ Progress.Astray }
         ensures mine { me.new ≡ me.old }
     {
-        let Desk {
-            journal,
-            keeper,
-            ..
-        } = self;
+        let (journal, keeper) = (&mut self.journal, &mut self.keeper);
         let (number, seen) = (me.number, me.seen);
         take_client(tie, keeper, journal, number, seen, &mut me.pass);
         let outcome = journal.fork(number);
@@ -67,53 +70,40 @@ impl<N: Shape> Desk<N> {
         outcome
     }
 
-    /// Makes the walk's first descent, to the root. The root's slot must be lent. Takes no memory.
+    /// Makes the walk's first descent, to the root, whose slot must be lent, and finds its next step. Takes no memory.
     pub fn enter(
         &mut self,
         tie: &Tie<N, Account>,
         me: &mut Rider<N>,
         root: &mut Locked<N>,
-    ) -> Progress
-        ensures does { Does self.old (Descend me.old.number) result self.new }
-        ensures astray { result ≡ Progress.Astray → IsAstrayAtTop self.old me.old.number root.old.number }
-        ensures stands { (inode : ℕ) → result ≡ Progress.Stands inode
+    ) -> Descent
+        ensures does { Does self.old (Descend me.old.number) result.progress self.new }
+        ensures astray { result.progress ≡ Progress.Astray → IsAstrayAtTop self.old me.old.number root.old.number }
+        ensures stands { (inode : ℕ) → result.progress ≡ Progress.Stands inode
             → (root.new.held.inode ≡ inode) × (root.new.held.node.mark ≡ Some me.old.number) }
+        ensures comes { ComesNext self.new me.old.number root.old.number result.next }
+        ensures slots { CanBeLent self.new result.next }
+        ensures names { IsNamed me.new.doing root.new.held result.next }
         ensures before { root.old.held ≡ slot_of self.old root.old.number }
         ensures after { root.new ≡ record root.old { held = slot_of self.new root.old.number } }
         ensures spares { Spares self.old self.new (root.old.number ∷ []) }
         ensures rest { self.new ≡ record self.old { world = self.new.world } }
         ensures mine { me.new ≡ me.old }
     {
-        let Desk {
-            journal,
-            keeper,
-            ..
-        } = self;
-        let (number, seen) = (me.number, me.seen);
-        take_slot(
-            tie,
-            keeper,
-            journal,
-            root.number,
-            &root.held,
-            &mut root.pass,
-        );
-        take_client(tie, keeper, journal, number, seen, &mut me.pass);
-        let outcome = journal.enter(number, root.number, &mut root.held);
-        put_slot(
-            tie,
-            keeper,
-            journal,
-            root.number,
-            &root.held,
-            &mut root.pass,
-            number,
-        );
-        me.pass = give_client(tie, keeper, journal, number, seen);
-        outcome
+        let (journal, keeper) = (&mut self.journal, &mut self.keeper);
+        let (client, seen) = (me.number, me.seen);
+        let Locked { number, held, pass } = root;
+        take_slot(tie, keeper, journal, *number, held, pass);
+        take_client(tie, keeper, journal, client, seen, &mut me.pass);
+        let progress = journal.enter(client, *number, held);
+        let next = journal.next_step(client, *number, held);
+        put_slot(tie, keeper, journal, *number, held, pass, client);
+        me.pass = give_client(tie, keeper, journal, client, seen);
+        Descent { progress, next }
     }
 
-    /// Makes a descent of the client's walk: from the current leg's directory to that of the next name. Takes no
+    /// Makes a descent of the client's walk, from the current leg's directory to that of the next name, and finds its
+    /// next step. If there is a hint, its name names its inode; if that is the next name, it isn't looked up. Takes no
     /// memory.
     pub fn descend(
         &mut self,
@@ -121,11 +111,19 @@ impl<N: Shape> Desk<N> {
         me: &mut Rider<N>,
         from: &mut Locked<N>,
         to: &mut Locked<N>,
-    ) -> Progress
-        ensures does { Does self.old (Descend me.old.number) result self.new }
-        ensures astray { result ≡ Progress.Astray → IsAstrayBelow self.old me.old.number from.old.number to.old.number }
-        ensures stands { (inode : ℕ) → result ≡ Progress.Stands inode
+        hint: Option<Onward>,
+    ) -> Descent
+        requires names { IfSome hint (λ on. (call : Call) → me.old.doing ≡ Some call
+            → Names call from.old.held on.name on.inode) }
+        ensures does { Does self.old (Descend me.old.number) result.progress self.new }
+        ensures astray { result.progress ≡ Progress.Astray
+            → IsAstrayBelow self.old me.old.number from.old.number to.old.number }
+        ensures stands { (inode : ℕ) → result.progress ≡ Progress.Stands inode
             → (to.new.held.inode ≡ inode) × (to.new.held.node.mark ≡ Some me.old.number) }
+        ensures comes { ComesNext self.new me.old.number (place_after result.progress from.old to.old).number
+            result.next }
+        ensures slots { CanBeLent self.new result.next }
+        ensures names { IsNamed me.new.doing (place_after result.progress from.new to.new).held result.next }
         ensures from_before { from.old.held ≡ slot_of self.old from.old.number }
         ensures to_before { to.old.held ≡ slot_of self.old to.old.number }
         ensures from_after { from.new ≡ record from.old { held = slot_of self.new from.old.number } }
@@ -134,42 +132,21 @@ impl<N: Shape> Desk<N> {
         ensures rest { self.new ≡ record self.old { world = self.new.world } }
         ensures mine { me.new ≡ me.old }
     {
-        let Desk {
-            journal,
-            keeper,
-            ..
-        } = self;
-        let (number, seen) = (me.number, me.seen);
+        let (journal, keeper) = (&mut self.journal, &mut self.keeper);
+        let (client, seen) = (me.number, me.seen);
+        let Locked { number, held, pass } = from;
         take_slot(tie, keeper, journal, to.number, &to.held, &mut to.pass);
-        take_slot(
-            tie,
-            keeper,
-            journal,
-            from.number,
-            &from.held,
-            &mut from.pass,
-        );
-        take_client(tie, keeper, journal, number, seen, &mut me.pass);
-        let outcome = journal.descend(number, from.number, &mut from.held, to.number, &mut to.held);
-        put_slot(
-            tie,
-            keeper,
-            journal,
-            from.number,
-            &from.held,
-            &mut from.pass,
-            number,
-        );
-        put_slot(
-            tie,
-            keeper,
-            journal,
-            to.number,
-            &to.held,
-            &mut to.pass,
-            number,
-        );
-        me.pass = give_client(tie, keeper, journal, number, seen);
-        outcome
+        take_slot(tie, keeper, journal, *number, held, pass);
+        take_client(tie, keeper, journal, client, seen, &mut me.pass);
+        let progress = journal.descend(client, *number, held, to.number, &mut to.held, hint);
+        let next = match progress {
+            Progress::Stands(_) => journal.next_step(client, to.number, &to.held),
+            _ => journal.next_step(client, *number, held),
+        };
+        put_slot(tie, keeper, journal, *number, held, pass, client);
+        let Locked { number, held, pass } = to;
+        put_slot(tie, keeper, journal, *number, held, pass, client);
+        me.pass = give_client(tie, keeper, journal, client, seen);
+        Descent { progress, next }
     }
 }

@@ -13,7 +13,7 @@ note_want-requires g c κs within = (within, (c.requires.1.1.1.0, (all, (c.requi
     all : AreAccounts g.asked.0 c.args.keeper.now
     all = subst (λ (b : Book). AreAccounts b c.args.keeper.now) (sym c.requires.1.0) c.requires.1.1.1.1.0
 
-    are : c.starves_on_file-ran_out.result ≡ true
+    are : c.starves-ran_out.result ≡ true
         → GoOn g.asked.0.world c.args.number (starved_in c.args.wants.now) (Some g.asked.1)
     are ran =
         subst (λ (p : Book × Call). GoOn p.0.world c.args.number (starved_in c.args.wants.now) (Some p.1))
@@ -21,7 +21,7 @@ note_want-requires g c κs within = (within, (c.requires.1.1.1.0, (all, (c.requi
         (result_starves c.args.journal.now c.fd_commit-made.new.self c.args.number c.args.call
         (FdCommit c.args.number c.args.call) (starved_in c.args.wants.now) c.fd_commit-made.result
         (record { mine = refl; asks = refl; idle = refl; other = λ e. cc e }) c.fd_commit-made.ensures.does
-        (sym c.starves_on_file-ran_out.ensures ∙ ran))
+        (sym c.starves-ran_out.ensures ∙ ran))
 
 pub returns-clause-all : goal.returns-clause-all
 returns-clause-all g c =
@@ -30,5 +30,5 @@ returns-clause-all g c =
 pub returns-clause-starved : goal.returns-clause-starved
 returns-clause-starved g c =
     c.note_want.ensures.starved
-    ∙ (λ i. starved_if (c.starves_on_file-ran_out.ensures i) (starved_in c.args.wants.now)
+    ∙ (λ i. starved_if (c.starves-ran_out.ensures i) (starved_in c.args.wants.now)
     (length ((c.requires.1.0 i).world.history)) (Some (c.requires.1.1.0 i)))

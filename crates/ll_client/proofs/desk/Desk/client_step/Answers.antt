@@ -39,7 +39,7 @@ pub give_client-requires-clause-seen : goal.give_client-requires-clause-seen
 give_client-requires-clause-seen g c =
     subst (λ k. k ≤ length c.step_alone-made.new.journal.world.history)
     (ap (λ (es : List Entry). seen_made c.step_alone-made.result c.me.inside.seen (length es))
-    (sym c.entries.ensures) ∙ sym c.seen_alone-me-inside.ensures)
+    (sym c.entries.ensures) ∙ sym c.seen_made-me-inside.ensures)
     (direct_low c.step_alone-made.result c.me.inside.seen (length c.self.inside.journal.world.history)
     (length c.step_alone-made.new.journal.world.history) c.take_client.ensures.seen
     (direct_steps c.self.inside.journal c.step_alone-made.new.journal c.me.inside.number c.args.call
@@ -66,9 +66,9 @@ returns-clause-mine g c =
     record { there = known.there; few = known.few; part_is = known.part; low = known.seen; doing_is = known.doing }
     in
     let seen : seen_made c.step_alone-made.result c.me.inside.seen (length c.step_alone-made.new.journal.world.history)
-    ≡ c.seen_alone-me-inside.result =
+    ≡ c.seen_made-me-inside.result =
     ap (λ (es : List Entry). seen_made c.step_alone-made.result c.me.inside.seen (length es)) (sym c.entries.ensures)
-    ∙ sym c.seen_alone-me-inside.ensures in
+    ∙ sym c.seen_made-me-inside.ensures in
     subst (λ (x : Knows × Knows). IfOk c.step_alone-made.result (λ a. Gains g.N.Shape.limit c.args.call x.0 a x.1))
     (λ i. (
       c.me.view_is i,
@@ -90,9 +90,9 @@ returns-clause-still g c =
     record { there = known.there; few = known.few; part_is = known.part; low = known.seen; doing_is = known.doing }
     in
     let seen : seen_made c.step_alone-made.result c.me.inside.seen (length c.step_alone-made.new.journal.world.history)
-    ≡ c.seen_alone-me-inside.result =
+    ≡ c.seen_made-me-inside.result =
     ap (λ (es : List Entry). seen_made c.step_alone-made.result c.me.inside.seen (length es)) (sym c.entries.ensures)
-    ∙ sym c.seen_alone-me-inside.ensures in
+    ∙ sym c.seen_made-me-inside.ensures in
     subst (λ (x : Knows × Knows). OnErr c.step_alone-made.result (x.1 ≡ x.0))
     (λ i. (
       c.me.view_is i,

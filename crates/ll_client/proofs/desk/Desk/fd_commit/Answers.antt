@@ -51,7 +51,7 @@ pub give_client-requires-clause-seen : goal.give_client-requires-clause-seen
 give_client-requires-clause-seen g c =
     subst (λ k. k ≤ length c.step_on_file-made.new.journal.world.history)
     (ap (λ (es : List Entry). seen_made c.step_on_file-made.result c.me.inside.seen (length es))
-    (sym c.entries.ensures) ∙ sym c.seen_on_file-me-inside.ensures)
+    (sym c.entries.ensures) ∙ sym c.seen_made-me-inside.ensures)
     (direct_low c.step_on_file-made.result c.me.inside.seen (length c.self.inside.journal.world.history)
     (length c.step_on_file-made.new.journal.world.history) c.take_client.ensures.seen
     (direct_steps c.self.inside.journal c.step_on_file-made.new.journal c.me.inside.number c.args.call
@@ -82,9 +82,9 @@ returns-clause-mine g c =
     in
     let seen : seen_made c.step_on_file-made.result c.me.inside.seen
     (length c.step_on_file-made.new.journal.world.history)
-    ≡ c.seen_on_file-me-inside.result =
+    ≡ c.seen_made-me-inside.result =
     ap (λ (es : List Entry). seen_made c.step_on_file-made.result c.me.inside.seen (length es)) (sym c.entries.ensures)
-    ∙ sym c.seen_on_file-me-inside.ensures in
+    ∙ sym c.seen_made-me-inside.ensures in
     subst (λ (x : Knows × Knows). IfOk c.step_on_file-made.result (λ a. Gains g.N.Shape.limit c.args.call x.0 a x.1))
     (λ i. (
       c.me.view_is i,
@@ -107,9 +107,9 @@ returns-clause-still g c =
     in
     let seen : seen_made c.step_on_file-made.result c.me.inside.seen
     (length c.step_on_file-made.new.journal.world.history)
-    ≡ c.seen_on_file-me-inside.result =
+    ≡ c.seen_made-me-inside.result =
     ap (λ (es : List Entry). seen_made c.step_on_file-made.result c.me.inside.seen (length es)) (sym c.entries.ensures)
-    ∙ sym c.seen_on_file-me-inside.ensures in
+    ∙ sym c.seen_made-me-inside.ensures in
     subst (λ (x : Knows × Knows). OnErr c.step_on_file-made.result (x.1 ≡ x.0))
     (λ i. (
       c.me.view_is i,

@@ -16,7 +16,7 @@ invariant_of-self g c =
 
 pub returns-clause-none : goal.returns-clause-none
 returns-clause-none g c =
-    let number : c.number-number.result ≡ c.args.me.now.number = cc in
+    let number : c.number-client.result ≡ c.args.me.now.number = cc in
     let slot : c.here.inside.number ≡ c.args.here.now.number = cc in
     let book : c.self.inside.journal ≡ c.args.self.now = cc in
     subst (λ (p : Book × (ℕ × ℕ)). IfNone c.slot_in_way-way.result (IsFreeFrom p.0 p.1.0 p.1.1))

@@ -193,9 +193,9 @@ returns-clause-mine g c =
     record { there = known.there; few = known.few; part_is = known.part; low = known.seen; doing_is = known.doing }
     in
     let seen : seen_made c.step_alone-made.result c.me.inside.seen (length c.step_alone-made.new.journal.world.history)
-    ≡ c.seen_alone-me-inside.result =
+    ≡ c.seen_made-me-inside.result =
     ap (λ (es : List Entry). seen_made c.step_alone-made.result c.me.inside.seen (length es)) (sym c.entries.ensures)
-    ∙ sym c.seen_alone-me-inside.ensures in
+    ∙ sym c.seen_made-me-inside.ensures in
     let gains = spawn_gains g.N.Shape.slots g.N.Shape.limit g.N.Shape.rules c.self.inside.journal
     c.step_alone-made.new.journal
     c.me.inside.number
@@ -242,9 +242,9 @@ returns-clause-alone g c =
     record { there = known.there; few = known.few; part_is = known.part; low = known.seen; doing_is = known.doing }
     in
     let seen : seen_made c.step_alone-made.result c.me.inside.seen (length c.step_alone-made.new.journal.world.history)
-    ≡ c.seen_alone-me-inside.result =
+    ≡ c.seen_made-me-inside.result =
     ap (λ (es : List Entry). seen_made c.step_alone-made.result c.me.inside.seen (length es)) (sym c.entries.ensures)
-    ∙ sym c.seen_alone-me-inside.ensures in
+    ∙ sym c.seen_made-me-inside.ensures in
     let gains = spawn_gains g.N.Shape.slots g.N.Shape.limit g.N.Shape.rules c.self.inside.journal
     c.step_alone-made.new.journal
     c.me.inside.number
@@ -292,7 +292,7 @@ returns-clause-child g c =
     c.me.inside.number
     c.self.inside.keeper c.step_alone-made.new.keeper c.step_alone-made.result c.spawned.result s
     child.rider.number is).part i) []
-    (sym (c.seen_alone-me-inside.ensures ∙ seen_child c.step_alone-made.result c.me.inside.seen
+    (sym (c.seen_made-me-inside.ensures ∙ seen_child c.step_alone-made.result c.me.inside.seen
     (length c.entries.result.now) child.rider.number (sym c.spawned.ensures ∙ is)) i) None))
     c.child-child.ensures.ok c.child-child.ensures.client
 
