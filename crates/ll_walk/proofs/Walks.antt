@@ -5,7 +5,7 @@ use Rattle.ll_seq.specs.Passed.{has_path}
 use Rattle.ll_seq.specs.Memory.{takes_memory}
 use Rattle.ll_seq.specs.declared.call.Call.{Call}
 use Rattle.ll_journal.specs.Book.{Book}
-use Rattle.ll_journal.specs.Starts.{Starts}
+use Rattle.ll_journal.specs.Direct.{Starts}
 use Rattle.ll_journal.specs.declared.direct.Made.{Made}
 use Rattle.ll_journal.specs.declared.start.Start.{Start}
 use Rattle.ll_journal.specs.declared.start.Start.TheVariants as start
@@ -14,7 +14,7 @@ use Rattle.ll_client.specs.declared.left.Left.{Left}
 use Rattle.ll_client.specs.declared.left.Left.TheVariants as left
 use Rattle.ll_client.specs.Entries.{Knows, starved_at}
 use Rattle.ll_client.specs.Gains.{Gains, Goes, Told}
-use Rattle.ll_walk.specs.Ends.{made_of}
+use Rattle.ll_walk.specs.Sections.{made_of}
 use Rattle.ll_walk.specs.Sections.{Came}
 
 some_is : {A : Type 0} (x y : A) → Some x ≡ Some y → x ≡ y

@@ -3,16 +3,15 @@
 ghost use Rattle.std.specs.Prelude.{◌≡◌, ◌<◌};
 ghost use Rattle.std.specs.Sync.Mutex.{mutex_guard_value};
 ghost use Rattle.ll_seq.specs.declared.call.Call.{Call};
-ghost use Rattle.ll_journal.specs.Onward.{Names};
-ghost use Rattle.ll_walk.specs.Sections.{AreThere, IsComing};
+ghost use Rattle.ll_journal.specs.Stations.{Names};
+ghost use Rattle.ll_walk.specs.Sections.{AreThere, IsReady};
 ghost use Rattle.ll_client.specs.Entries.{Kept};
 
 use crate::gate::Gate;
-use crate::section::{Coming, View};
 use crate::table::Table;
 use crate::waiter::Waiter;
 use ll_client::{Locked, Place, Rider, Shape};
-use ll_journal::Onward;
+use ll_journal::{Next, Onward};
 use std::sync::{MutexGuard, Wait};
 use std::thread;
 
@@ -23,17 +22,17 @@ impl<N: Shape, G: Gate<N>> Table<N, G> {
         &self,
         waiter: &mut Waiter<'_, R>,
         me: &mut Rider<N>,
-    ) -> (MutexGuard<'_, Locked<N>>, Coming)
-        ensures there { IsComing N.slots me.new.doing (mutex_guard_value {X = Kept} result.0) result.1 }
+    ) -> (MutexGuard<'_, Locked<N>>, Next)
+        ensures ready { IsReady N.slots me.new.doing (mutex_guard_value {X = Kept} result.0) result.1 }
         ensures mine { me.new ≡ me.old }
     {
         let mut slot = self.root;
         for _ in waiter.forever() {
             let mut root = waiter.locked(self, slot);
-            let (landing, coming) = waiter.section(self).enter(&self.tie, me, &mut root);
+            let (landing, next) = waiter.section(self).enter(&self.tie, me, &mut root);
             if let Some(due) = landing.released() {
                 due.tell(&self.gate, &root);
-                return (root, coming);
+                return (root, next);
             }
             drop(root);
             thread::yield_now();
@@ -46,32 +45,33 @@ impl<N: Shape, G: Gate<N>> Table<N, G> {
 
     /// Descends by one name: locks the next directory and releases the one above. If there is no descent, keeps the
     /// lock.
+    #[tactic(auto, using(crate::proofs::Looks::ready_there, crate::proofs::Looks::ready_here))]
     pub(crate) fn further<'a, R: Wait>(
         &'a self,
         waiter: &mut Waiter<'_, R>,
         me: &mut Rider<N>,
         mut here: MutexGuard<'a, Locked<N>>,
         on: Onward,
-    ) -> (MutexGuard<'a, Locked<N>>, Coming)
+    ) -> (MutexGuard<'a, Locked<N>>, Next)
         requires within { on.slot < N.slots }
         requires names { (call : Call) → me.old.doing ≡ Some call
-            → Names call (mutex_guard_value {X = Kept} here).held on.depth on.inode }
-        ensures there { IsComing N.slots me.new.doing (mutex_guard_value {X = Kept} result.0) result.1 }
+            → Names call (mutex_guard_value {X = Kept} here).held on.name on.inode }
+        ensures ready { IsReady N.slots me.new.doing (mutex_guard_value {X = Kept} result.0) result.1 }
         ensures mine { me.new ≡ me.old }
     {
         let mut to = waiter.locked(self, on.slot);
         let section = waiter.section(self);
-        let (landing, then) = section.descend(&self.tie, me, &mut here, &mut to, on);
+        let (landing, next) = section.descend(&self.tie, me, &mut here, &mut to, on);
         match landing.released() {
             Some(due) => {
                 drop(here);
                 due.tell(&self.gate, &to);
-                (to, then)
+                (to, next)
             }
             None => {
                 drop(to);
                 thread::yield_now();
-                (here, then)
+                (here, next)
             }
         }
     }
@@ -84,15 +84,15 @@ impl<N: Shape, G: Gate<N>> Table<N, G> {
         me: &mut Rider<N>,
         common: &mut Locked<N>,
         mut branch: Place<'a, N>,
-        next: u64,
-    ) -> (Place<'a, N>, View)
-        requires { next < N.slots }
-        ensures there { AreThere N.slots result.1.next }
+        slot: u64,
+    ) -> (Place<'a, N>, Next)
+        requires { slot < N.slots }
+        ensures there { AreThere N.slots result.1 }
         ensures mine { me.new ≡ me.old }
     {
-        let mut to = waiter.locked(self, next);
+        let mut to = waiter.locked(self, slot);
         let section = waiter.section(self);
-        let (landing, view) = match &mut branch {
+        let (landing, next) = match &mut branch {
             None => section.descend_from_fork(&self.tie, me, common, &mut to),
             Some(from) => section.descend_below(&self.tie, me, common, from, &mut to),
         };
@@ -100,12 +100,12 @@ impl<N: Shape, G: Gate<N>> Table<N, G> {
             Some(due) => {
                 drop(branch);
                 due.tell(&self.gate, &to);
-                (Some(to), view)
+                (Some(to), next)
             }
             None => {
                 drop(to);
                 thread::yield_now();
-                (branch, view)
+                (branch, next)
             }
         }
     }

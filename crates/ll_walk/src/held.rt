@@ -8,8 +8,9 @@ ghost use Rattle.ll_client.specs.Gains.{Goes};
 ghost use Rattle.ll_client.specs.declared.lent.TheConstants.{LENT_SLOTS};
 ghost use Rattle.ll_walk.specs.Sections.{AreThere};
 
-use crate::section::{Section, View};
+use crate::section::Section;
 use ll_client::{Account, Leaving, Left, Locked, Place, Places, Rider, Shape, Tie};
+use ll_journal::Next;
 use std::sync::MutexGuard;
 
 /// The lock of the fork's directory; and for each leg the lock of its directory, if that is another one.
@@ -83,7 +84,7 @@ impl<'a, N: Shape> Split<'a, N> {
     }
 
     /// The numbers of the locked slots. A leg that is still in the fork's directory counts as that.
-    fn numbers(&self) -> [u64; 3] {
+    pub(crate) fn numbers(&self) -> [u64; 3] {
         let common = self.common.number();
         let first = number_in(&self.first, common);
         let second = number_in(&self.second, common);
@@ -97,55 +98,30 @@ impl<'a, N: Shape> Split<'a, N> {
         other_than(slots, &self.numbers())
     }
 
-    /// Returns the slot of a node under a last name that another client's walk has marked, if this walk doesn't hold
-    /// it.
-    pub(crate) fn slot_in_way(
+    /// Finds the next step of a walk past its fork.
+    pub(crate) fn next(
         &mut self,
         section: Section<'_, N>,
         tie: &Tie<N, Account>,
-        me: &Rider<N>,
-    ) -> Option<u64>
-        ensures { IfSome result (λ way. way < N.slots) }
-    {
-        let held = self.numbers();
-        let Split {
-            common,
-            first,
-            second,
-        } = self;
-        let (way, spent) = match (first, second) {
-            (None, None) => section.slot_in_way_here(tie, me, common),
-            (Some(a), None) => section.slot_in_way(tie, me, a, common),
-            (None, Some(b)) => section.slot_in_way(tie, me, common, b),
-            (Some(a), Some(b)) => section.slot_in_way(tie, me, a, b),
-        };
-        drop(spent);
-        unless_held(way, &held)
-    }
-
-    /// Looks where the walk is past its fork, and for its next step.
-    pub(crate) fn view(
-        &mut self,
-        section: Section<'_, N>,
-        tie: &Tie<N, Account>,
-        me: &Rider<N>,
-    ) -> View
-        ensures { AreThere N.slots result.next }
+        me: &mut Rider<N>,
+    ) -> Next
+        ensures there { AreThere N.slots result }
+        ensures mine { me.new ≡ me.old }
     {
         let Split {
             common,
             first,
             second,
         } = self;
-        let (view, spent) = match second {
-            Some(here) => section.view(tie, me, here, common),
+        let (next, spent) = match second {
+            Some(here) => section.next_from(tie, me, here, common),
             None => match first {
-                Some(here) => section.view(tie, me, here, common),
-                None => section.view_here(tie, me, common),
+                Some(here) => section.next_from(tie, me, here, common),
+                None => section.next_here(tie, me, common),
             },
         };
         drop(spent);
-        view
+        next
     }
 
     /// Commits or restarts the walk with all held slots, and with one more if given.

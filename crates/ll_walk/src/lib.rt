@@ -13,5 +13,5 @@ mod table;
 mod waiter;
 
 pub use gate::{Gate, NoGate};
-pub use section::{Coming, Due, Landing, Section, Spent, View};
+pub use section::{Due, Landing, Section, Spent};
 pub use table::Table;

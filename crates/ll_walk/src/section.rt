@@ -9,11 +9,12 @@ ghost use Rattle.ll_rights.specs.declared.limits.TheConstants.{TREE_CLIENTS};
 ghost use Rattle.std.specs.Sync.Mutex.{mutex_guard_value};
 ghost use Rattle.ll_journal.specs.Book.{inode_in};
 ghost use Rattle.ll_journal.specs.InWay.{IsFreeFrom, IsInWay};
-ghost use Rattle.ll_journal.specs.NextStep.{ComesNext};
-ghost use Rattle.ll_journal.specs.Onward.{Names};
+ghost use Rattle.ll_journal.specs.NextStep.{CanBeLent, ComesNext};
+ghost use Rattle.ll_journal.specs.Stations.{Names};
 ghost use Rattle.ll_journal.specs.Steps.{Does};
 ghost use Rattle.ll_laws.specs.declared.step.Step.TheVariants.{Descend, Fork};
-ghost use Rattle.ll_walk.specs.Sections.{AreThere, IsComing, IsView, IsViewAfter, IsViewFrom, Sees, SeesAfter, Shows};
+ghost use Rattle.ll_client.specs.Coming.{place_after};
+ghost use Rattle.ll_walk.specs.Sections.{AreThere, ComesFrom, IsReady, Shows};
 ghost use Rattle.ll_seq.specs.declared.call.Call.{Call};
 ghost use Rattle.ll_seq.specs.History.{IsLegal};
 ghost use Rattle.ll_seq.specs.State.{root, start};
@@ -23,23 +24,9 @@ ghost use Rattle.ll_journal.specs.SlotTree.{HoldTree, accounts_of};
 use crate::queue::Queue;
 pub use due::Due;
 pub(crate) use due::DueGate;
-use ll_client::{Account, Client, Desk, Locked, ReadsHistory, Rider, Shape, Tie};
-use ll_journal::{Next, Onward, Progress, Station};
+use ll_client::{Account, Client, Descent, Desk, Locked, ReadsHistory, Rider, Shape, Tie};
+use ll_journal::{Next, Onward, Progress};
 use std::sync::{Mutex, MutexGuard, Wait};
-
-/// What a look at a walk past its fork finds: where it is, and its next step.
-#[derive(Drop)]
-pub struct View {
-    pub station: Station,
-    pub next: Next,
-}
-
-/// The next step of a walk above its fork: a descent to this directory, or another step.
-#[derive(Drop)]
-pub enum Coming {
-    Down(Onward),
-    Other(Next),
-}
 
 /// The journal behind its lock.
 #[derive(Drop)]
@@ -110,184 +97,91 @@ impl<'a, N: Shape> Landing<'a, N> {
 }
 
 /// Finds the walk's next step, given its current leg's slot.
-#[tactic(auto, using(crate::proofs::Looks::are_there))]
+#[tactic(auto, using(crate::proofs::Looks::is_ready))]
 #[inline(always)]
 fn next_at<N: Shape>(
     desk: &mut Desk<N>,
     tie: &Tie<N, Account>,
-    me: &Rider<N>,
+    me: &mut Rider<N>,
     here: &mut Locked<N>,
 ) -> Next
     ensures desk { desk.new ≡ desk.old }
+    ensures me { me.new ≡ me.old }
     ensures here { here.new ≡ here.old }
-    ensures there { AreThere N.slots result }
-    ensures comes { ComesNext desk.old me.now.number here.old.number result }
+    ensures ready { IsReady N.slots me.old.doing here.old result }
+    ensures comes { ComesNext desk.old me.old.number here.old.number result }
 {
     desk.by_law();
     desk.next_step(tie, me, here)
 }
 
-/// Finds what the walk does next above its fork: the directory to descend to, or another step.
-#[tactic(auto, using(crate::proofs::Looks::comes_down))]
-#[inline(always)]
-fn coming_at<N: Shape>(
+/// Returns the walk's next step: this one, found from the slot at this place, or if its current leg isn't there the one
+/// that is found from the other slot.
+fn next_or<N: Shape>(
     desk: &mut Desk<N>,
     tie: &Tie<N, Account>,
     me: &mut Rider<N>,
-    here: &mut Locked<N>,
-) -> Coming
-    ensures desk { desk.new ≡ desk.old }
-    ensures me { me.new ≡ me.old }
-    ensures here { here.new ≡ here.old }
-    ensures there { IsComing N.slots me.old.doing here.old result }
-    ensures sees { Sees desk.old me.old.number here.old.number result }
-{
-    desk.by_law();
-    match desk.onward(tie, me, here) {
-        Some(on) => Coming::Down(on),
-        None => Coming::Other(next_at(desk, tie, me, here)),
-    }
-}
-
-/// Finds what the walk does next after a descent above its fork, from the slot where it is now.
-fn coming_after<N: Shape>(
-    desk: &mut Desk<N>,
-    tie: &Tie<N, Account>,
-    me: &mut Rider<N>,
-    progress: &Progress,
-    from: &mut Locked<N>,
-    to: &mut Locked<N>,
-) -> Coming
-    ensures desk { desk.new ≡ desk.old }
-    ensures me { me.new ≡ me.old }
-    ensures from { from.new ≡ from.old }
-    ensures to { to.new ≡ to.old }
-    ensures there { (inode : ℕ) → progress.now ≡ Progress.Stands inode
-        → IsComing N.slots me.old.doing to.old result }
-    ensures still { ((inode : ℕ) → progress.now ≢ Progress.Stands inode)
-        → IsComing N.slots me.old.doing from.old result }
-    ensures sees { SeesAfter desk.old me.old.number from.old.number to.old.number progress.now result }
-{
-    match progress {
-        Progress::Stands(_) => coming_at(desk, tie, me, to),
-        _ => coming_at(desk, tie, me, from),
-    }
-}
-
-/// Finds where the walk is and its next step.
-fn view_at<N: Shape>(
-    desk: &mut Desk<N>,
-    tie: &Tie<N, Account>,
-    me: &Rider<N>,
-    here: &mut Locked<N>,
-) -> View
-    ensures desk { desk.new ≡ desk.old }
-    ensures here { here.new ≡ here.old }
-    ensures there { AreThere N.slots result.next }
-    ensures sees { IsView desk.old me.now.number here.old.number result }
-{
-    let station = desk.station(me);
-    let next = next_at(desk, tie, me, here);
-    View { station, next }
-}
-
-/// Finds where the walk is and its next step, from the slot of its current leg: the first if it is that one, otherwise
-/// the second.
-fn view_from<N: Shape>(
-    desk: &mut Desk<N>,
-    tie: &Tie<N, Account>,
-    me: &Rider<N>,
-    one: &mut Locked<N>,
+    place: u64,
+    next: Next,
     other: &mut Locked<N>,
-) -> View
+) -> Next
+    requires comes { ComesNext desk.old me.old.number place next }
+    requires there { AreThere N.slots next }
     ensures desk { desk.new ≡ desk.old }
-    ensures one { one.new ≡ one.old }
+    ensures me { me.new ≡ me.old }
     ensures other { other.new ≡ other.old }
-    ensures there { AreThere N.slots result.next }
-    ensures sees { IsViewFrom desk.old me.now.number one.old.number other.old.number result }
+    ensures there { AreThere N.slots result }
+    ensures comes { ComesFrom desk.old me.old.number place other.old.number result }
 {
-    if desk.turn_slot(me) == Some(one.number()) {
-        view_at(desk, tie, me, one)
-    } else {
-        view_at(desk, tie, me, other)
+    let _ = place;
+    match next {
+        Next::Elsewhere => next_at(desk, tie, me, other),
+        next => next,
     }
 }
 
-/// Finds where the walk is and its next step after a descent past the fork, from the slot where it is now, or from the
-/// fork's directory.
-fn view_below<N: Shape>(
-    desk: &mut Desk<N>,
-    tie: &Tie<N, Account>,
-    me: &Rider<N>,
-    progress: &Progress,
-    common: &mut Locked<N>,
-    from: &mut Locked<N>,
-    to: &mut Locked<N>,
-) -> View
-    ensures desk { desk.new ≡ desk.old }
-    ensures common { common.new ≡ common.old }
-    ensures from { from.new ≡ from.old }
-    ensures to { to.new ≡ to.old }
-    ensures there { AreThere N.slots result.next }
-    ensures sees { IsViewAfter desk.old me.now.number common.old.number from.old.number to.old.number progress.now
-        result }
+/// Returns where the walk is after a descent, if it was made.
+fn place_after(progress: &Progress, from: u64, to: u64) -> u64
+    ensures { result ≡ place_after progress.now from to }
 {
     match progress {
-        Progress::Stands(_) => view_from(desk, tie, me, to, common),
-        _ => view_from(desk, tie, me, from, common),
+        Progress::Stands(_) => to,
+        _ => from,
     }
-}
-
-/// Looks in this slot's directory for a node that another walk has marked and that keeps the client's walk from being
-/// answered.
-fn slot_in_way<N: Shape>(
-    desk: &mut Desk<N>,
-    tie: &Tie<N, Account>,
-    me: &Rider<N>,
-    here: &mut Locked<N>,
-) -> Option<u64>
-    ensures desk { desk.new ≡ desk.old }
-    ensures here { here.new ≡ here.old }
-    ensures way { IfSome result (IsInWay desk.old me.now.number) }
-    ensures there { IfSome result (λ way. way < N.slots) }
-    ensures none { IfNone result (IsFreeFrom desk.old me.now.number here.old.number) }
-{
-    desk.by_law();
-    desk.slot_in_way(tie, me, here)
 }
 
 impl<'a, N: Shape> Section<'a, N> {
-    /// Makes the walk's first descent, to the root, and finds what it does next.
+    /// Makes the walk's first descent, to the root, and finds its next step.
     pub fn enter(
         self,
         tie: &Tie<N, Account>,
         me: &mut Rider<N>,
         root: &mut Locked<N>,
-    ) -> (Landing<'a, N>, Coming)
+    ) -> (Landing<'a, N>, Next)
         ensures step { Does (mutex_guard_value self.entry.desk) (Descend me.old.number) result.0.progress
             (mutex_guard_value result.0.desk) }
-        ensures sees { Sees (mutex_guard_value result.0.desk) me.old.number root.old.number result.1 }
+        ensures comes { ComesNext (mutex_guard_value result.0.desk) me.old.number root.old.number result.1 }
         ensures shows { Shows (mutex_guard_value self.entry.desk) (mutex_guard_value result.0.desk) (root.old ∷ [])
             (root.new ∷ []) }
         ensures stands { (inode : ℕ) → result.0.progress ≡ Progress.Stands inode
             → (root.new.held.inode ≡ inode) × (root.new.held.node.mark ≡ Some me.old.number) }
         ensures client { result.0.client ≡ me.old.number }
-        ensures there { IsComing N.slots me.new.doing root.new result.1 }
+        ensures ready { IsReady N.slots me.new.doing root.new result.1 }
         ensures mine { me.new ≡ me.old }
     {
         let Section { mut desk } = self;
         let client = me.number();
-        let progress = desk.enter(tie, me, root);
-        let coming = coming_at(&mut desk, tie, me, root);
+        let Descent { progress, next } = desk.enter(tie, me, root);
+        desk.by_law();
         let landing = Landing {
             desk,
             client,
             progress,
         };
-        (landing, coming)
+        (landing, next)
     }
 
-    /// Makes a descent above the fork, to the directory that the last look found, and finds what the walk does next.
+    /// Makes a descent above the fork, to the directory that the last look found, and finds the next step.
     pub fn descend(
         self,
         tie: &Tie<N, Account>,
@@ -295,69 +189,67 @@ impl<'a, N: Shape> Section<'a, N> {
         from: &mut Locked<N>,
         to: &mut Locked<N>,
         on: Onward,
-    ) -> (Landing<'a, N>, Coming)
-        requires { (call : Call) → me.old.doing ≡ Some call → Names call from.old.held on.depth on.inode }
+    ) -> (Landing<'a, N>, Next)
+        requires { (call : Call) → me.old.doing ≡ Some call → Names call from.old.held on.name on.inode }
         ensures step { Does (mutex_guard_value self.entry.desk) (Descend me.old.number) result.0.progress
             (mutex_guard_value result.0.desk) }
-        ensures sees { SeesAfter (mutex_guard_value result.0.desk) me.old.number from.old.number to.old.number
-            result.0.progress result.1 }
+        ensures comes { ComesNext (mutex_guard_value result.0.desk) me.old.number
+            (place_after result.0.progress from.old to.old).number result.1 }
         ensures shows { Shows (mutex_guard_value self.entry.desk) (mutex_guard_value result.0.desk)
             (from.old ∷ to.old ∷ []) (from.new ∷ to.new ∷ []) }
         ensures stands { (inode : ℕ) → result.0.progress ≡ Progress.Stands inode
             → (to.new.held.inode ≡ inode) × (to.new.held.node.mark ≡ Some me.old.number) }
         ensures client { result.0.client ≡ me.old.number }
-        ensures there { (inode : ℕ) → result.0.progress ≡ Progress.Stands inode
-            → IsComing N.slots me.new.doing to.new result.1 }
-        ensures still { ((inode : ℕ) → result.0.progress ≢ Progress.Stands inode)
-            → IsComing N.slots me.new.doing from.new result.1 }
+        ensures ready { IsReady N.slots me.new.doing (place_after result.0.progress from.new to.new) result.1 }
         ensures mine { me.new ≡ me.old }
     {
         let Section { mut desk } = self;
         let client = me.number();
-        let progress = desk.descend_onward(tie, me, from, to, on);
-        let coming = coming_after(&mut desk, tie, me, &progress, from, to);
+        let Descent { progress, next } = desk.descend(tie, me, from, to, Some(on));
+        desk.by_law();
         let landing = Landing {
             desk,
             client,
             progress,
         };
-        (landing, coming)
+        (landing, next)
     }
 
-    /// Makes a descent from the fork's directory, and finds where the walk is and its next step.
+    /// Makes a descent from the fork's directory, and finds the next step.
     pub fn descend_from_fork(
         self,
         tie: &Tie<N, Account>,
         me: &mut Rider<N>,
         from: &mut Locked<N>,
         to: &mut Locked<N>,
-    ) -> (Landing<'a, N>, View)
+    ) -> (Landing<'a, N>, Next)
         ensures step { Does (mutex_guard_value self.entry.desk) (Descend me.old.number) result.0.progress
             (mutex_guard_value result.0.desk) }
-        ensures sees { IsViewFrom (mutex_guard_value result.0.desk) me.old.number to.old.number from.old.number
-            result.1 }
+        ensures comes { ComesFrom (mutex_guard_value result.0.desk) me.old.number
+            (place_after result.0.progress from.old to.old).number from.old.number result.1 }
         ensures shows { Shows (mutex_guard_value self.entry.desk) (mutex_guard_value result.0.desk)
             (from.old ∷ to.old ∷ []) (from.new ∷ to.new ∷ []) }
         ensures stands { (inode : ℕ) → result.0.progress ≡ Progress.Stands inode
             → (to.new.held.inode ≡ inode) × (to.new.held.node.mark ≡ Some me.old.number) }
         ensures client { result.0.client ≡ me.old.number }
-        ensures there { AreThere N.slots result.1.next }
+        ensures there { AreThere N.slots result.1 }
         ensures mine { me.new ≡ me.old }
     {
         let Section { mut desk } = self;
         let client = me.number();
-        let progress = desk.descend(tie, me, from, to);
-        let view = view_from(&mut desk, tie, me, to, from);
+        let Descent { progress, next } = desk.descend(tie, me, from, to, None);
+        desk.by_law();
+        let place = place_after(&progress, from.number(), to.number());
+        let next = next_or(&mut desk, tie, me, place, next, from);
         let landing = Landing {
             desk,
             client,
             progress,
         };
-        (landing, view)
+        (landing, next)
     }
 
-    /// Makes a descent from below the fork's directory, whose lock is held too, and finds where the walk is and its
-    /// next step.
+    /// Makes a descent from below the fork's directory, whose lock is held too, and finds the next step.
     pub fn descend_below(
         self,
         tie: &Tie<N, Account>,
@@ -365,140 +257,98 @@ impl<'a, N: Shape> Section<'a, N> {
         common: &mut Locked<N>,
         from: &mut Locked<N>,
         to: &mut Locked<N>,
-    ) -> (Landing<'a, N>, View)
+    ) -> (Landing<'a, N>, Next)
         ensures step { Does (mutex_guard_value self.entry.desk) (Descend me.old.number) result.0.progress
             (mutex_guard_value result.0.desk) }
-        ensures sees { IsViewAfter (mutex_guard_value result.0.desk) me.old.number common.old.number from.old.number
-            to.old.number result.0.progress result.1 }
+        ensures comes { ComesFrom (mutex_guard_value result.0.desk) me.old.number
+            (place_after result.0.progress from.old to.old).number common.old.number result.1 }
         ensures shows { Shows (mutex_guard_value self.entry.desk) (mutex_guard_value result.0.desk)
             (from.old ∷ to.old ∷ []) (from.new ∷ to.new ∷ []) }
         ensures stands { (inode : ℕ) → result.0.progress ≡ Progress.Stands inode
             → (to.new.held.inode ≡ inode) × (to.new.held.node.mark ≡ Some me.old.number) }
         ensures client { result.0.client ≡ me.old.number }
         ensures common { common.new ≡ common.old }
-        ensures there { AreThere N.slots result.1.next }
+        ensures there { AreThere N.slots result.1 }
         ensures mine { me.new ≡ me.old }
     {
         let Section { mut desk } = self;
         let client = me.number();
-        let progress = desk.descend(tie, me, from, to);
-        let view = view_below(&mut desk, tie, me, &progress, common, from, to);
+        let Descent { progress, next } = desk.descend(tie, me, from, to, None);
+        desk.by_law();
+        let place = place_after(&progress, from.number(), to.number());
+        let next = next_or(&mut desk, tie, me, place, next, common);
         let landing = Landing {
             desk,
             client,
             progress,
         };
-        (landing, view)
+        (landing, next)
     }
 
-    /// Splits the client's walk into one leg for each path, and finds where it is and its next step.
+    /// Splits the client's walk into one leg for each path, and finds its next step.
     pub fn fork(
         self,
         tie: &Tie<N, Account>,
         me: &mut Rider<N>,
         here: &mut Locked<N>,
-    ) -> (Progress, View, Spent<'a, N>)
+    ) -> (Progress, Next, Spent<'a, N>)
         ensures step { Does (mutex_guard_value self.entry.desk) (Fork me.old.number) result.0
             (mutex_guard_value result.2.desk) }
-        ensures sees { IsView (mutex_guard_value result.2.desk) me.old.number here.old.number result.1 }
+        ensures comes { ComesNext (mutex_guard_value result.2.desk) me.old.number here.old.number result.1 }
         ensures shows { Shows (mutex_guard_value self.entry.desk) (mutex_guard_value result.2.desk) [] [] }
         ensures here { here.new ≡ here.old }
-        ensures there { AreThere N.slots result.1.next }
+        ensures there { AreThere N.slots result.1 }
         ensures mine { me.new ≡ me.old }
     {
         let Section { mut desk } = self;
         let progress = desk.fork(tie, me);
-        let view = view_at(&mut desk, tie, me, here);
-        (progress, view, Spent { desk })
+        let next = next_at(&mut desk, tie, me, here);
+        (progress, next, Spent { desk })
     }
 
-    /// Finds where a walk past its fork is and its next step. Its current leg is in one of the two slots.
-    pub fn view(
+    /// Finds the next step of a walk whose current leg is in one of the two slots.
+    pub fn next_from(
         self,
         tie: &Tie<N, Account>,
-        me: &Rider<N>,
+        me: &mut Rider<N>,
         one: &mut Locked<N>,
         other: &mut Locked<N>,
-    ) -> (View, Spent<'a, N>)
+    ) -> (Next, Spent<'a, N>)
         ensures kept { mutex_guard_value result.1.desk ≡ mutex_guard_value self.entry.desk }
         ensures one { one.new ≡ one.old }
         ensures other { other.new ≡ other.old }
-        ensures there { AreThere N.slots result.0.next }
-        ensures sees { IsViewFrom (mutex_guard_value self.entry.desk) me.now.number one.old.number
+        ensures there { AreThere N.slots result.0 }
+        ensures comes { ComesFrom (mutex_guard_value self.entry.desk) me.old.number one.old.number
             other.old.number result.0 }
+        ensures mine { me.new ≡ me.old }
     {
         let Section { mut desk } = self;
-        let view = view_from(&mut desk, tie, me, one, other);
-        (view, Spent { desk })
+        let next = next_at(&mut desk, tie, me, one);
+        let next = next_or(&mut desk, tie, me, one.number(), next, other);
+        (next, Spent { desk })
     }
 
-    /// Finds what the walk does next above its fork, from the slot where it is.
-    pub fn coming_here(
+    /// Finds the walk's next step, from the slot where it is.
+    pub fn next_here(
         self,
         tie: &Tie<N, Account>,
         me: &mut Rider<N>,
         here: &mut Locked<N>,
-    ) -> (Coming, Spent<'a, N>)
+    ) -> (Next, Spent<'a, N>)
         ensures kept { mutex_guard_value result.1.desk ≡ mutex_guard_value self.entry.desk }
         ensures here { here.new ≡ here.old }
-        ensures there { IsComing N.slots me.new.doing here.new result.0 }
-        ensures sees { Sees (mutex_guard_value self.entry.desk) me.old.number here.old.number result.0 }
+        ensures ready { IsReady N.slots me.new.doing here.new result.0 }
+        ensures comes { ComesNext (mutex_guard_value self.entry.desk) me.old.number here.old.number result.0 }
         ensures mine { me.new ≡ me.old }
     {
         let Section { mut desk } = self;
-        let coming = coming_at(&mut desk, tie, me, here);
-        (coming, Spent { desk })
-    }
-
-    /// Finds where a walk past its fork is and its next step, from one slot.
-    pub fn view_here(
-        self,
-        tie: &Tie<N, Account>,
-        me: &Rider<N>,
-        here: &mut Locked<N>,
-    ) -> (View, Spent<'a, N>)
-        ensures kept { mutex_guard_value result.1.desk ≡ mutex_guard_value self.entry.desk }
-        ensures here { here.new ≡ here.old }
-        ensures there { AreThere N.slots result.0.next }
-        ensures sees { IsView (mutex_guard_value self.entry.desk) me.now.number here.old.number result.0 }
-    {
-        let Section { mut desk } = self;
-        let view = view_at(&mut desk, tie, me, here);
-        (view, Spent { desk })
-    }
-
-    /// For a walk at its ends: returns the slot of a node under a last name that another client's walk has marked,
-    /// which delays this one's answer. Looks in the directories of both slots.
-    pub fn slot_in_way(
-        self,
-        tie: &Tie<N, Account>,
-        me: &Rider<N>,
-        one: &mut Locked<N>,
-        other: &mut Locked<N>,
-    ) -> (Option<u64>, Spent<'a, N>)
-        ensures kept { mutex_guard_value result.1.desk ≡ mutex_guard_value self.entry.desk }
-        ensures one { one.new ≡ one.old }
-        ensures other { other.new ≡ other.old }
-        ensures way { IfSome result.0 (IsInWay (mutex_guard_value self.entry.desk) me.now.number) }
-        ensures there { IfSome result.0 (λ way. way < N.slots) }
-        ensures none_one { IfNone result.0
-            (IsFreeFrom (mutex_guard_value self.entry.desk) me.now.number one.old.number) }
-        ensures none_other { IfNone result.0
-            (IsFreeFrom (mutex_guard_value self.entry.desk) me.now.number other.old.number) }
-    {
-        let Section { mut desk } = self;
-        match slot_in_way(&mut desk, tie, me, one) {
-            Some(way) => (Some(way), Spent { desk }),
-            None => {
-                let way = slot_in_way(&mut desk, tie, me, other);
-                (way, Spent { desk })
-            }
-        }
+        let next = next_at(&mut desk, tie, me, here);
+        (next, Spent { desk })
     }
 
     /// For a walk at its ends: returns the slot of a node under a last name that another client's walk has marked,
     /// which delays this one's answer. Looks in the directory of this slot.
-    pub fn slot_in_way_here(
+    pub fn slot_in_way(
         self,
         tie: &Tie<N, Account>,
         me: &Rider<N>,
@@ -512,7 +362,8 @@ impl<'a, N: Shape> Section<'a, N> {
             (IsFreeFrom (mutex_guard_value self.entry.desk) me.now.number here.old.number) }
     {
         let Section { mut desk } = self;
-        let way = slot_in_way(&mut desk, tie, me, here);
+        desk.by_law();
+        let way = desk.slot_in_way(tie, me, here);
         (way, Spent { desk })
     }
 

@@ -1,27 +1,19 @@
 //! One start of a walk, from the root to its reply.
 
-ghost use Rattle.std.specs.Prelude.{◌≡◌};
+ghost use Rattle.std.specs.Prelude.{◌≡◌, ◌<◌, IfSome};
 ghost use Rattle.std.specs.Sync.Mutex.{mutex_guard_value};
 ghost use Rattle.ll_walk.specs.Sections.{Came};
 ghost use Rattle.ll_client.specs.Entries.{Kept};
-ghost use Rattle.ll_walk.specs.Ends.{made_of};
-ghost use Rattle.ll_walk.specs.Outlooks.{IsOutlook};
+ghost use Rattle.ll_walk.specs.Sections.{made_of};
+ghost use Rattle.ll_walk.specs.Sections.{IsOutlook};
 
 use crate::gate::Gate;
-use crate::held::Split;
-use crate::section::{Coming, View};
+use crate::held::{Split, unless_held};
 use crate::table::Table;
 use crate::waiter::Waiter;
-use ll_client::{Leaving, Left, Rider, Shape};
-use ll_journal::{Made, Next, Progress, Station};
+use ll_client::{Leaving, Left, Locked, Rider, Shape};
+use ll_journal::{Made, Next, Progress, Turn};
 use std::sync::Wait;
-
-/// What a look at a walk finds: above its fork, or past it.
-#[derive(Drop)]
-pub(crate) enum Outlook {
-    Above(Coming),
-    Past(View),
-}
 
 /// The result of the call, if the walk has ended.
 fn made_of(left: Left) -> Option<Made>
@@ -43,18 +35,54 @@ impl<N: Shape, G: Gate<N>> Table<N, G> {
         me: &mut Rider<N>,
         split: &mut Split<'_, N>,
         is_forked: bool,
-    ) -> Outlook
-        ensures sight { IsOutlook N.slots me.new.doing (mutex_guard_value {X = Kept} split.new.common) result }
+    ) -> Next
+        ensures known { IsOutlook N.slots me.new.doing (mutex_guard_value {X = Kept} split.new.common) is_forked
+            result }
         ensures mine { me.new ≡ me.old }
     {
+        let section = waiter.section(self);
         if is_forked {
-            Outlook::Past(split.view(waiter.section(self), &self.tie, me))
+            split.next(section, &self.tie, me)
         } else {
-            let section = waiter.section(self);
-            let (coming, spent) = section.coming_here(&self.tie, me, &mut split.common);
+            let (next, spent) = section.next_here(&self.tie, me, &mut split.common);
             drop(spent);
-            Outlook::Above(coming)
+            next
         }
+    }
+
+    /// Looks in this slot's directory for a node that another walk has marked and that delays this one's answer.
+    fn way_in<R: Wait>(
+        &self,
+        waiter: &mut Waiter<'_, R>,
+        me: &Rider<N>,
+        here: &mut Locked<N>,
+    ) -> Option<u64>
+        ensures { IfSome result (λ way. way < N.slots) }
+    {
+        let (way, spent) = waiter.section(self).slot_in_way(&self.tie, me, here);
+        drop(spent);
+        way
+    }
+
+    /// Waits for a node under a last name that another walk has marked, if there is one that this walk doesn't hold.
+    fn wait_for_way<R: Wait>(
+        &self,
+        waiter: &mut Waiter<'_, R>,
+        me: &Rider<N>,
+        split: &mut Split<'_, N>,
+    ) {
+        let mut way = self.way_in(waiter, me, &mut split.common);
+        if let Some(here) = &mut split.first
+            && way.is_none()
+        {
+            way = self.way_in(waiter, me, here);
+        }
+        if let Some(here) = &mut split.second
+            && way.is_none()
+        {
+            way = self.way_in(waiter, me, here);
+        }
+        waiter.wait_for(self, unless_held(way, &split.numbers()));
     }
 
     /// Makes one start of the client's walk. None if it has restarted, above the root.
@@ -66,51 +94,50 @@ impl<N: Shape, G: Gate<N>> Table<N, G> {
     ) -> Option<Made>
         ensures { Came N.limit me.old result me.new }
     {
-        let (root, coming) = self.enter(waiter, me);
+        let (root, mut next) = self.enter(waiter, me);
         let mut split = Split::of(root);
-        let mut sight = Outlook::Above(coming);
         let mut is_forked = false;
         for _ in waiter.forever() {
-            let next = match sight {
-                Outlook::Above(Coming::Down(on)) => {
-                    let (here, coming) = self.further(waiter, me, split.common, on);
-                    split = Split::of(here);
-                    sight = Outlook::Above(coming);
-                    continue;
-                }
-                Outlook::Past(
-                    View {
-                        station,
-                        next: Next::Descend(next),
-                    },
-                ) => {
-                    let view = if station == Station::First {
-                        let from = split.first.take();
-                        let (place, view) = self.below(waiter, me, &mut split.common, from, next);
-                        split.first = place;
-                        view
-                    } else {
-                        let from = split.second.take();
-                        let (place, view) = self.below(waiter, me, &mut split.common, from, next);
-                        split.second = place;
-                        view
-                    };
-                    sight = Outlook::Past(view);
-                    continue;
-                }
-                Outlook::Above(Coming::Other(next)) => next,
-                Outlook::Past(View { next, .. }) => next,
-            };
             let mut last = None;
             let mut leaving = None;
             match next {
+                Next::Descend(on) => {
+                    next = if !is_forked {
+                        let (here, then) = self.further(waiter, me, split.common, on);
+                        split = Split::of(here);
+                        then
+                    } else if on.name.turn == Turn::First {
+                        let from = split.first.take();
+                        let (place, then) = self.below(
+                            waiter,
+                            me,
+                            &mut split.common,
+                            from,
+                            on.slot,
+                        );
+                        split.first = place;
+                        then
+                    } else {
+                        let from = split.second.take();
+                        let (place, then) = self.below(
+                            waiter,
+                            me,
+                            &mut split.common,
+                            from,
+                            on.slot,
+                        );
+                        split.second = place;
+                        then
+                    };
+                    continue;
+                }
                 Next::Fork => {
                     let section = waiter.section(self);
-                    let (progress, view, spent) = section.fork(&self.tie, me, &mut split.common);
+                    let (progress, then, spent) = section.fork(&self.tie, me, &mut split.common);
                     drop(spent);
                     if progress == Progress::Forked {
                         is_forked = true;
-                        sight = Outlook::Past(view);
+                        next = then;
                         continue;
                     }
                 }
@@ -121,7 +148,7 @@ impl<N: Shape, G: Gate<N>> Table<N, G> {
                     }
                     leaving = Some(Leaving::Commit);
                 }
-                Next::Nothing | Next::Enter(_) | Next::Descend(_) => {}
+                Next::Nothing | Next::Elsewhere | Next::Enter(_) => {}
             }
             if let Some(leaving) = leaving {
                 let left = split.leave(waiter.section(self), &self.tie, me, &mut last, leaving);
@@ -133,9 +160,8 @@ impl<N: Shape, G: Gate<N>> Table<N, G> {
                 }
             }
             drop(last);
-            let way = split.slot_in_way(waiter.section(self), &self.tie, me);
-            waiter.wait_for(self, way);
-            sight = self.look(waiter, me, &mut split, is_forked);
+            self.wait_for_way(waiter, me, &mut split);
+            next = self.look(waiter, me, &mut split, is_forked);
         }
         unreachable!()
     }
