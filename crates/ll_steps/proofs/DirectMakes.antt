@@ -26,10 +26,10 @@ use Rattle.ll_laws.proofs.StepGrowth.{Went, went}
 use Rattle.ll_laws.proofs.Tests.{both}
 use Rattle.ll_journal.specs.Book.{Book, Spares, inode_in, slot_of}
 use Rattle.ll_journal.specs.Direct.{Answers, ComesBack, IsOpen}
-use Rattle.ll_journal.specs.Starving.{Starves, is_refusal, succeeds}
+use Rattle.ll_journal.specs.Direct.{Starves, is_refusal, succeeds}
 use Rattle.ll_journal.specs.declared.direct.Made.{Made}
 use Rattle.ll_journal.specs.declared.direct.Made.TheVariants as answer
-use Rattle.ll_journal.specs.Starts.{Starts}
+use Rattle.ll_journal.specs.Direct.{Starts}
 use Rattle.ll_journal.specs.declared.start.Start.{Start}
 use Rattle.ll_journal.specs.declared.start.Start.TheVariants as start
 use Rattle.ll_journal.specs.declared.open_file.Unmade.{Unmade}

@@ -16,7 +16,10 @@ use Rattle.ll_journal.specs.Book.{Book, Spares, held_of, inode_in, slot_of}
 use Rattle.ll_journal.specs.SlotTree.{accounts_of}
 use Rattle.ll_journal.proofs.EntryDirs.{all_in}
 use Rattle.ll_journal.proofs.LentSlots.{slot_holds}
-use Rattle.ll_steps.specs.Contents.{held_at}
+use Rattle.ll_journal.specs.Stations.{Names, call_of}
+use Rattle.ll_journal.specs.declared.onward.Onward.{Onward}
+use Rattle.ll_seq.specs.declared.call.Call.{Call}
+use Rattle.ll_steps.specs.Contents.{IsHint, held_at}
 use Rattle.ll_steps.proofs.ContentsKept.{account_at, length_accounts, filled_so}
 use Rattle.ll_steps.proofs.Trading.{elsewhere}
 
@@ -174,3 +177,11 @@ spares_turned b b' k l spares = record {
   size = spares.size;
   slots = λ j out. spares.slots j (out.1.0, (out.0, tt));
 }
+
+-- what is told of a slot holds of what it holds
+pub hint_lent : (b : Book) (client slot : ℕ) (held : Held) (hint : Option Onward) → held ≡ slot_of b slot
+    → IfSome hint (IsHint b client slot)
+    → IfSome hint (λ on. (call : Call) → call_of b.world client ≡ Some call → Names call held on.name on.inode)
+hint_lent b client slot held None is told = tt
+hint_lent b client slot held (Some on) is told =
+    λ call calls. subst (λ (h : Held). Names call h on.name on.inode) (sym is) (told call calls)

@@ -1,8 +1,11 @@
 -- What the slots hold, and how that agrees with the journal. No public contract cites it. own
-use Rattle.std.specs.Prelude.{◌≡◌, ℕ, ◌≤◌, List, length, slice_index_or}
+use Rattle.std.specs.Prelude.{◌≡◌, ℕ, ◌≤◌, List, Some, length, slice_index_or}
 use Rattle.ll_node.specs.declared.held.Held.{Held}
 use Rattle.ll_node.specs.Lent.{vacant}
-use Rattle.ll_journal.specs.Book.{Book}
+use Rattle.ll_seq.specs.declared.call.Call.{Call}
+use Rattle.ll_journal.specs.Book.{Book, slot_of}
+use Rattle.ll_journal.specs.Stations.{Names, call_of}
+use Rattle.ll_journal.specs.declared.onward.Onward.{Onward}
 use Rattle.ll_journal.specs.SlotTree.{accounts_of}
 use Rattle.ll_laws.specs.Sound.{IsSound}
 use Rattle.ll_journal.specs.declared.progress.Progress as journal
@@ -22,6 +25,11 @@ pub record IsKept (b : Book) (slots : List Held) : Type 0 where
   pub accounts : slots ≡ accounts_of b
   pub sound : IsSound b.world
   pub within : length b.world.history ≤ b.world.limit
+
+-- the hinted name of the client's walk has the hinted inode in this slot
+abbrev pub IsHint : Book → ℕ → ℕ → Onward → Type 0
+IsHint b client slot on =
+    (call : Call) → call_of b.world client ≡ Some call → Names call (slot_of b slot) on.name on.inode
 
 -- the report of what the journal returns for a step
 abbrev pub told_as : journal.Progress → Report

@@ -8,7 +8,7 @@ use Rattle.ll_laws.specs.declared.step.Step.{Step}
 use Rattle.ll_laws.specs.declared.step.Step.TheVariants.{Join, Commit}
 use Rattle.ll_laws.specs.World as world
 use Rattle.ll_laws.specs.World.{World, advance, called, is_full, without_walk}
-use Rattle.ll_journal.specs.Starving.{Starves}
+use Rattle.ll_journal.specs.Direct.{Starves}
 use Rattle.ll_steps.specs.declared.report.Report.{Report}
 use Rattle.ll_steps.specs.declared.report.Report.TheVariants as report
 

@@ -53,12 +53,13 @@ fn step_on(
     let from = slot_in_turn(journal, client);
     let outcome = match journal.next_step(client, from, &slots[from as usize]) {
         Next::Nothing => return Some(Report::NotNow),
+        Next::Elsewhere => unreachable!(),
         Next::Commit(needed) => {
             let outcome = commit_with(journal, slots, hands, client, needed.as_slice());
             return Some(outcome);
         }
         Next::Enter(slot) => enter_at(journal, slots, client, slot),
-        Next::Descend(to) => descend_between(journal, slots, client, from, to),
+        Next::Descend(on) => { descend_between(journal, slots, client, from, on.slot, Some(on)) }
         Next::Fork => fork_in(journal, slots, client),
         Next::Restart(needed) => restart_with(journal, slots, hands, client, needed.as_slice()),
     };

@@ -1,6 +1,6 @@
 //! The steps of a walk.
 
-ghost use Rattle.std.specs.Prelude.{◌≡◌, ◌≢◌, ℕ, ◌<◌, ◌≤◌, true, false, Some, IfOk, IfErr, OnErr, length};
+ghost use Rattle.std.specs.Prelude.{◌≡◌, ◌≢◌, ℕ, ◌<◌, ◌≤◌, true, false, Some, IfOk, IfErr, IfSome, OnErr, length};
 ghost use Rattle.std.specs.List.{AllByRecursion};
 ghost use Rattle.ll_rights.specs.Map.{get};
 ghost use Rattle.ll_node.specs.InodeTable.{AreDistinct};
@@ -9,14 +9,14 @@ ghost use Rattle.ll_seq.specs.State.{root};
 ghost use Rattle.ll_journal.specs.Book.{has_mark, inode_in};
 ghost use Rattle.ll_journal.specs.WalkEnds.{AreEnough, is_lent};
 ghost use Rattle.ll_laws.specs.declared.step.Step.TheVariants as steps;
-ghost use Rattle.ll_steps.specs.Contents.{IsKept, ended_as, told_as};
+ghost use Rattle.ll_steps.specs.Contents.{IsHint, IsKept, ended_as, told_as};
 ghost use Rattle.ll_journal.specs.Steps.{IsNext, is_at_top};
 ghost use Rattle.ll_steps.specs.Makes.{Makes};
 
 use crate::report::Report;
 use crate::slots::{Hands, trade};
 use crate::world::World;
-use ll_journal::{Ending, Journal, Progress, Station};
+use ll_journal::{Ending, Journal, Onward, Progress, Station};
 use ll_node::Held;
 use ll_rights::Errno;
 use ll_seq::Call;
@@ -69,9 +69,11 @@ fn descend_forth(
     client: u64,
     from: u64,
     to: u64,
+    hint: Option<Onward>,
 ) -> Report
     requires kept { IsKept journal.old slots.old }
     requires next { IsNext journal.old client from to }
+    requires names { IfSome hint (IsHint journal.old client from) }
     requires here { from < length slots.old }
     requires there { to < length slots.old }
     requires later { from < to }
@@ -79,7 +81,14 @@ fn descend_forth(
     ensures kept { IsKept journal.new slots.new }
 {
     let (front, back) = slots.split_at_mut(to as usize);
-    told(journal.descend_to(client, from, &mut front[from as usize], to, &mut back[0]))
+    told(journal.descend(
+        client,
+        from,
+        &mut front[from as usize],
+        to,
+        &mut back[0],
+        hint,
+    ))
 }
 
 /// Descends from the directory in slot `from` to the one in a lower slot `to`.
@@ -89,9 +98,11 @@ fn descend_back(
     client: u64,
     from: u64,
     to: u64,
+    hint: Option<Onward>,
 ) -> Report
     requires kept { IsKept journal.old slots.old }
     requires next { IsNext journal.old client from to }
+    requires names { IfSome hint (IsHint journal.old client from) }
     requires here { from < length slots.old }
     requires there { to < length slots.old }
     requires earlier { to < from }
@@ -99,19 +110,28 @@ fn descend_back(
     ensures kept { IsKept journal.new slots.new }
 {
     let (front, back) = slots.split_at_mut(from as usize);
-    told(journal.descend_to(client, from, &mut back[0], to, &mut front[to as usize]))
+    told(journal.descend(
+        client,
+        from,
+        &mut back[0],
+        to,
+        &mut front[to as usize],
+        hint,
+    ))
 }
 
-/// Descends from the directory in slot `from` to the one in slot `to`.
+/// Descends from the directory in slot `from` to the one in slot `to`. If there is a hint, its name names its inode.
 pub(crate) fn descend_between(
     journal: &mut Journal,
     slots: &mut [Held],
     client: u64,
     from: u64,
     to: u64,
+    hint: Option<Onward>,
 ) -> Report
     requires kept { IsKept journal.old slots.old }
     requires next { IsNext journal.old client from to }
+    requires names { IfSome hint (IsHint journal.old client from) }
     requires here { from < length slots.old }
     requires there { to < length slots.old }
     ensures makes { Makes journal.old.world (steps.Descend client) result journal.new.world }
@@ -122,9 +142,9 @@ pub(crate) fn descend_between(
         return Report::NotNow;
     }
     if from < to {
-        descend_forth(journal, slots, client, from, to)
+        descend_forth(journal, slots, client, from, to, hint)
     } else {
-        descend_back(journal, slots, client, from, to)
+        descend_back(journal, slots, client, from, to, hint)
     }
 }
 
@@ -242,7 +262,7 @@ impl World {
         else {
             return Report::NotNow;
         };
-        descend_between(&mut self.journal, &mut self.slots, client, from, to)
+        descend_between(&mut self.journal, &mut self.slots, client, from, to, None)
     }
 
     /// Splits the client's walk into one leg for each path.

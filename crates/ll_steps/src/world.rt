@@ -39,7 +39,7 @@ impl World {
     ghost use Rattle.ll_seq.specs.State.{child};
     ghost use Rattle.ll_laws.specs.Walk.{Walk};
     ghost use Rattle.ll_laws.specs.World.{new_world, shown};
-    ghost use Rattle.ll_journal.specs.Positions.{position_in};
+    ghost use Rattle.ll_journal.specs.Stations.{position_in};
     ghost use Rattle.ll_journal.specs.Stations.{station_in};
 
     /// Returns a tree with only the root and no clients, for at most `nodes` nodes. Reserves room for `history`

@@ -4,6 +4,7 @@ use Rattle.std.proofs.lemmas.List.{get_or_default}
 use Rattle.ll_node.specs.Lent.{vacant}
 use Rattle.ll_node.specs.declared.held.Held.{Held}
 use Rattle.ll_journal.specs.Book.{Book}
+use Rattle.ll_journal.specs.Stations.{Names}
 use Rattle.ll_laws.specs.declared.step.Step.{Step}
 use Rattle.ll_laws.specs.declared.step.Step.TheVariants.{Descend, Fork, Restart}
 use Rattle.ll_steps.specs.Contents.{IsKept}
@@ -57,7 +58,16 @@ descend_between-outcome-requires-clause-here c =
 
 pub descend_between-outcome-requires-clause-there : goal.descend_between-outcome-requires-clause-there
 descend_between-outcome-requires-clause-there c =
-    bound_of c.args.journal.now c.args.slots.now c.in-Descend.to c.requires.accounts c.in-Descend.ensures.slots
+    bound_of c.args.journal.now c.args.slots.now c.in-Descend.on.slot c.requires.accounts c.in-Descend.ensures.slots
+
+pub descend_between-outcome-requires-clause-names : goal.descend_between-outcome-requires-clause-names
+descend_between-outcome-requires-clause-names c call calls =
+    subst (λ (h : Held). Names call h c.in-Descend.on.name c.in-Descend.on.inode)
+    (get_or_default c.args.slots.now c.slot_in_turn-from.result c.index-slots-from.result vacant
+    (bound_of c.args.journal.now c.args.slots.now c.slot_in_turn-from.result c.requires.accounts
+    c.slot_in_turn-from.ensures.within)
+    ∙ account_at c.args.journal.now c.args.slots.now c.slot_in_turn-from.result c.requires.accounts
+    c.slot_in_turn-from.ensures.within) (c.in-Descend.ensures.names call calls)
 
 pub returns-in-Nothing-clause-steps : goal.returns-in-Nothing-clause-steps
 returns-in-Nothing-clause-steps c = nothing_comes c.args.journal.now.world c.args.client c.in-Nothing.ensures.comes
@@ -66,7 +76,7 @@ pub returns-in-Commit-clause-steps : goal.returns-in-Commit-clause-steps
 returns-in-Commit-clause-steps c =
     commit_comes c.args.journal.now c.args.client c.in-Commit.needed c.commit_with-outcome.new.journal.world
     c.commit_with-outcome.result
-    (c.in-Commit.ensures.comes c.slot_in_turn-from.ensures.turn) c.commit_with-outcome.ensures.makes
+    c.in-Commit.ensures.comes.1 c.commit_with-outcome.ensures.makes
 
 pub returns-clause-kept : goal.returns-clause-kept
 returns-clause-kept c = elim c.match-next_step.branch [
@@ -103,7 +113,7 @@ returns-clause-steps c =
           (makes c (Descend client) _ _ w.outcome-is w.journal-is w.enter_at-outcome.ensures.makes)
       | in-Descend w ↦
           descent_comes world after client outcome result (told c) c.args.journal.now c.slot_in_turn-from.result
-          w.in-Descend.to refl w.in-Descend.ensures.comes
+          w.in-Descend.on.slot refl w.in-Descend.ensures.comes.0
           (makes c (Descend client) _ _ w.outcome-is w.journal-is w.descend_between-outcome.ensures.makes)
       | in-Fork w ↦ fork_comes world after client outcome result (told c) w.in-Fork.ensures.comes
           (makes c (Fork client) _ _ w.outcome-is w.journal-is w.fork_in-outcome.ensures.makes)
