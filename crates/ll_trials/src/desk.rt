@@ -5,8 +5,8 @@ ghost use Rattle.ll_client.specs.declared.lent.TheConstants.{LENT_SLOTS};
 
 use crate::calls::target;
 use ll_client::{
-    Account, Blank, Client, Desk, Leaving, Left, Locked, Opened, Places, Rider, Shape, Tie, close,
-    open,
+    Account, Blank, Client, Descent, Desk, Leaving, Left, Locked, Opened, Places, Rider, Shape,
+    Tie, close, open,
 };
 use ll_journal::{Next, Progress};
 use ll_rights::{Abi, Kind};
@@ -36,16 +36,12 @@ fn sets_out<N: Shape>(
     is_begun
 }
 
-/// Whether the walk's next step is its commit, with the root's slot and this one.
-fn ends_with<N: Shape>(
-    tie: &Tie<N, Account>,
-    desk: &mut Desk<N>,
-    me: &Rider<N>,
-    root: &mut Locked<N>,
-    spare: u64,
-) -> bool {
-    match desk.next_step(tie, me, root) {
-        Next::Commit(slots) => slots.as_slice() == [0, spare].as_slice(),
+/// Whether the walk stands in the root, and its next step is its commit, with the root's slot and this one.
+fn ends_with(descent: &Descent, spare: u64) -> bool {
+    match &descent.next {
+        Next::Commit(slots) => {
+            descent.progress == Progress::Stands(ROOT) && slots.as_slice() == [0, spare].as_slice()
+        }
         _ => false,
     }
 }
@@ -63,10 +59,12 @@ fn makes<N: Shape>(
     requires { length others.old.items < LENT_SLOTS }
     ensures { IsTrue result → me.new.doing ≡ None }
 {
-    if !sets_out(alloc, tie, desk, me) || desk.enter(tie, me, root) != Progress::Stands(ROOT) {
+    if !sets_out(alloc, tie, desk, me) {
         return false;
     }
-    let is_told = ends_with(tie, desk, me, root, spare);
+    let descent = desk.enter(tie, me, root);
+    let is_told = ends_with(&descent, spare);
+    drop(descent);
     let left = desk.leave(tie, me, root, others, Leaving::Commit);
     match left {
         Left::Answered(Reply::Done) => is_told,
