@@ -33,6 +33,7 @@ use ll_rights::Abi;
 use ll_seq::{Call, ClientRecord, Descriptor, Found, NumberMap, Rules};
 use std::alloc::{AllocError, Global};
 use std::marker::Model;
+use std::mem::replace;
 
 /// The start on which a walk takes the gate.
 const LAST_START: u64 = 4;
@@ -135,7 +136,8 @@ impl Seat {
         } }
     {
         know_ways(&call);
-        self.call = Some(call);
+        let idle = replace(&mut self.call, Some(call));
+        drop(idle);
         self.starts = 1;
         self.is_stale = false;
         self.stage = Stage::Above;
