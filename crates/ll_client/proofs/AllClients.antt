@@ -1,7 +1,6 @@
 -- As many clients of a tree as it has, each with a number of its own, are all its clients.
 use Rattle.std.specs.Prelude.{◌≡◌, ◌≢◌, ℕ, suc, ◌+◌, ◌*◌, ◌≤◌, ◌==◌, ◌||◌, Bool, true, false, List, [], ◌∷◌, ◌++◌, map}
-use Rattle.std.specs.Prelude.{length}
-use Rattle.std.specs.Prelude.{Option, Some, None, is_some, refl}
+use Rattle.std.specs.Prelude.{length, Option, Some, None, is_some, refl}
 use Rattle.std.specs.List.{AllByRecursion}
 use Rattle.std.specs.Cmp.{nat_cmp_total}
 use Rattle.std.specs.FinMap.{nat_cmp-IsAntisymmetric}

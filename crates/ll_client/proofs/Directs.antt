@@ -1,7 +1,6 @@
 -- What comes of a call that doesn't walk: of the tree, and of its client.
 use Rattle.std.specs.Prelude.{◌≡◌, ◌≢◌, ℕ, ◌≤◌, List, [], ◌∷◌, ◌++◌, length, Option, Some, None, Result, Ok, Err, IfOk}
-use Rattle.std.specs.Prelude.{OnErr}
-use Rattle.std.specs.Prelude.{Bool, true, false, refl, unwrap_or, if◌then◌else◌, ◌&&◌, ◌||◌, not, is_none}
+use Rattle.std.specs.Prelude.{OnErr, Bool, true, false, refl, unwrap_or, if◌then◌else◌, ◌&&◌, ◌||◌, not, is_none}
 use Rattle.std.proofs.Common.{sym, subst, ap, ◌∙◌, arith}
 use Rattle.ll_seq.specs.Memory.{MayStarve, takes_memory}
 use Rattle.ll_seq.specs.Passed.{has_path}
@@ -17,12 +16,10 @@ use Rattle.ll_journal.proofs.Begun.{names_one}
 use Rattle.ll_laws.specs.World as world
 use Rattle.ll_seq.specs.Call.{targets}
 use Rattle.ll_seq.specs.Stages.{early_refusals}
-use Rattle.ll_laws.specs.World.{World, advance, has_any, is_idle, is_walked, shown}
-use Rattle.ll_laws.specs.World.{takes_gate}
+use Rattle.ll_laws.specs.World.{World, advance, has_any, is_idle, is_walked, shown, takes_gate}
 use Rattle.ll_laws.specs.Sound.{IsSound}
 use Rattle.ll_journal.specs.Book.{Book}
-use Rattle.ll_journal.specs.Direct.{Answers}
-use Rattle.ll_journal.specs.Direct.{Starves}
+use Rattle.ll_journal.specs.Direct.{Answers, Starves}
 use Rattle.ll_journal.specs.declared.direct.Made.{Made}
 use Rattle.ll_journal.specs.declared.direct.Made.TheVariants as made
 use Rattle.ll_client.specs.declared.account.Numbered.{Numbered}
@@ -32,8 +29,7 @@ use Rattle.ll_client.specs.Gains.{Gains}
 use Rattle.ll_client.specs.Hands.{seen_made, starved_if, starves_made}
 use Rattle.ll_client.specs.Replies.{Fits, success}
 use Rattle.ll_client.proofs.Accounts.{IsClient}
-use Rattle.ll_laws.proofs.StepGrowth.{Grown, Went, asked, by_client, called_is, client_in, doing_after, entry_of}
-use Rattle.ll_laws.proofs.StepGrowth.{went}
+use Rattle.ll_laws.proofs.StepGrowth.{Grown, Went, asked, by_client, called_is, client_in, doing_after, entry_of, went}
 use Rattle.ll_client.proofs.Desks.{Steps, stepped, stood}
 use Rattle.ll_client.proofs.Leavings.{full_grown, full_is, low_full, room_grown, told_one}
 

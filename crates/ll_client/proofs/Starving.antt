@@ -16,9 +16,7 @@ use Rattle.ll_laws.specs.declared.step.Step.TheVariants as steps
 use Rattle.ll_laws.specs.Walk.{Walk}
 use Rattle.ll_laws.specs.World.{World, is_full, shown}
 use Rattle.ll_journal.specs.Book.{Book}
-use Rattle.ll_journal.specs.Direct.{Answers}
-use Rattle.ll_journal.specs.Direct.{Starts}
-use Rattle.ll_journal.specs.Direct.{Starves}
+use Rattle.ll_journal.specs.Direct.{Answers, Starts, Starves}
 use Rattle.ll_journal.proofs.Starved.{starved_walk}
 use Rattle.ll_journal.specs.declared.direct.Made.{Made}
 use Rattle.ll_journal.specs.declared.direct.Made.TheVariants as made

@@ -32,14 +32,26 @@ fn child_in(reply: Reply) -> Result<u64, Errno>
 }
 
 /// The child's number in the result of a spawn. Errors: the refusal, HistoryFull or NoMemory.
+fn child_made(made: Made) -> Result<u64, Errno>
+    ensures { result ≡ child_of (Ok made) }
+{
+    match made {
+        Made::Replied(reply) => child_in(reply),
+        Made::HistoryFull => Err(Errno::HistoryFull),
+        Made::NoMemory => Err(Errno::NoMemory),
+    }
+}
+
+/// The same where the call may have been given back, which a spawn never is.
 fn spawned(made: Result<Made, Call>) -> Result<u64, Errno>
     ensures { result ≡ child_of made }
 {
     match made {
-        Ok(Made::Replied(reply)) => child_in(reply),
-        Ok(Made::HistoryFull) => Err(Errno::HistoryFull),
-        Ok(Made::NoMemory) => Err(Errno::NoMemory),
-        Err(_) => Err(Errno::EMFILE),
+        Ok(made) => child_made(made),
+        Err(call) => {
+            drop(call);
+            Err(Errno::EMFILE)
+        }
     }
 }
 
@@ -61,10 +73,8 @@ fn child<N: Shape>(
     ensures err { IfErr result (λ errno. told ≡ Err errno) }
     ensures others { (c : ℕ) → told ≢ Ok c → get keeper.new (3 * c + 1) ≡ get keeper.old (3 * c + 1) }
 {
-    match told {
-        Ok(number) => Ok(newcomer(tie, keeper, journal, number, seen)),
-        Err(errno) => Err(errno),
-    }
+    let number = told?;
+    Ok(newcomer(tie, keeper, journal, number, seen))
 }
 
 impl<N: Shape> Desk<N> {

@@ -3,8 +3,7 @@
 ghost use Rattle.std.specs.Prelude.{◌≡◌, ℕ, ◌≤◌, [], Some, length};
 ghost use Rattle.ll_rights.specs.declared.limits.TheConstants.{TREE_CLIENTS};
 ghost use Rattle.ll_journal.specs.Book.{Book, Spares};
-ghost use Rattle.ll_journal.specs.Direct.{LeavesSlots, TakesMemory};
-ghost use Rattle.ll_journal.specs.Direct.{Starts};
+ghost use Rattle.ll_journal.specs.Direct.{LeavesSlots, TakesMemory, Starts};
 ghost use Rattle.ll_client.specs.Entries.{AreAccounts, starved_in, wants_entry};
 ghost use Rattle.ll_client.specs.Hands.{OnlyWants, seen_started, starved_if, starves_started};
 
