@@ -1,5 +1,7 @@
 -- A look at what comes next tells slots of the tree, and is made from the slot in turn.
-use Rattle.std.proofs.Common.{◌≡◌, ◌≢◌, ◌<◌, ℕ, length, Option, refl, subst}
+use Rattle.std.proofs.Common.{◌≡◌, ◌≢◌, ◌<◌, ℕ, length, Option, None, Some, ap, refl, subst}
+use Rattle.std.specs.Sync.Mutex.{mutex_guard_value}
+use Rattle.std.specs.declared.sync.MutexGuard.{MutexGuard}
 use Rattle.std.specs.List.{AllByRecursion}
 use Rattle.ll_seq.specs.declared.call.Call.{Call}
 use Rattle.ll_journal.specs.Book.{Book}
@@ -10,7 +12,8 @@ use Rattle.ll_journal.specs.declared.progress.Progress.{Progress}
 use Rattle.ll_journal.specs.declared.progress.Progress.TheVariants as progress
 use Rattle.ll_client.specs.Coming.{place_after}
 use Rattle.ll_client.specs.Entries.{Kept}
-use Rattle.ll_walk.specs.Sections.{AreThere, ComesFrom, IsReady}
+use Rattle.ll_walk.specs.declared.held.Branch.{Branch}
+use Rattle.ll_walk.specs.Sections.{AreThere, IsReady, leg_at}
 
 pub are_there : (b : Book) (slots : ℕ) (it : Next) → length b.inodes ≡ slots → CanBeLent b it → AreThere slots it
 are_there b slots next.Nothing is h = tt
@@ -24,14 +27,6 @@ are_there b slots (next.Commit needed) is h = subst (λ (n : ℕ). AllByRecursio
 pub is_ready : (b : Book) (slots : ℕ) (doing : Option Call) (here : Kept) (it : Next) → length b.inodes ≡ slots
     → CanBeLent b it → IsNamed doing here.held it → IsReady slots doing here it
 is_ready b slots doing here it is lent named = (are_there b slots it is lent, named)
-
-pub place_number : (p : Progress) (from to : Kept)
-    → place_after p from.number to.number ≡ (place_after p from to).number
-place_number progress.NotNow from to = refl
-place_number progress.Astray from to = refl
-place_number (progress.Stands inode) from to = refl
-place_number progress.Forked from to = refl
-place_number progress.Restarted from to = refl
 
 -- from where the walk is after a descent
 module _ (slots : ℕ) (doing : Option Call) (from to : Kept) (it : Next) where
@@ -47,8 +42,19 @@ module _ (slots : ℕ) (doing : Option Call) (from to : Kept) (it : Next) where
   ready_here progress.Forked not h = h
   ready_here progress.Restarted not h = h
 
-pub comes_from_as : (b w : Book) (m n j k h l : ℕ) (it : Next) → b ≡ w → m ≡ n → j ≡ k → h ≡ l
-    → ComesFrom b m j h it → ComesFrom w n k l it
-comes_from_as b w m n j k h l it book number one other =
-    subst (λ (p : Book × (ℕ × (ℕ × ℕ))). ComesFrom p.0 p.1.0 p.1.1.0 p.1.1.1 it)
-    (λ i. (book i, (number i, (one i, other i))))
+pub ready_as : (slots : ℕ) (doing doing' : Option Call) (here here' : Kept) (it it' : Next) → doing ≡ doing'
+    → here ≡ here' → it ≡ it' → IsReady slots doing here it → IsReady slots doing' here' it'
+ready_as slots doing doing' here here' it it' call place next =
+    subst (λ (p : Option Call × (Kept × Next)). IsReady slots p.0 p.1.0 p.1.1)
+    (λ i. (call i, (place i, next i)))
+
+pub leg_at_fork : (seen : Option Branch) (common : MutexGuard Kept) (first second : Option (MutexGuard Kept))
+    → seen ≡ None → leg_at seen common first second ≡ mutex_guard_value common
+leg_at_fork seen common first second is =
+    ap (λ (leg : Option Branch). leg_at leg common first second) is
+
+pub leg_at_branch : (seen : Option Branch) (branch : Branch) (common : MutexGuard Kept)
+    (first second : Option (MutexGuard Kept)) → seen ≡ Some branch
+    → leg_at seen common first second ≡ leg_at (Some branch) common first second
+leg_at_branch seen branch common first second is =
+    ap (λ (leg : Option Branch). leg_at leg common first second) is

@@ -14,8 +14,7 @@ use Rattle.ll_client.specs.declared.left.Left.{Left}
 use Rattle.ll_client.specs.declared.left.Left.TheVariants as left
 use Rattle.ll_client.specs.Entries.{Knows, starved_at}
 use Rattle.ll_client.specs.Gains.{Gains, Goes, Told}
-use Rattle.ll_walk.specs.Sections.{made_of}
-use Rattle.ll_walk.specs.Sections.{Came}
+use Rattle.ll_walk.specs.Sections.{made_of, Came}
 
 some_is : {A : Type 0} (x y : A) → Some x ≡ Some y → x ≡ y
 some_is x y e = cc

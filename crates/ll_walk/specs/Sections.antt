@@ -1,5 +1,7 @@
 -- What a section is, and what the start of a walk results in. own
-use Rattle.std.specs.Prelude.{◌≡◌, ◌⊎◌, ℕ, ◌<◌, List, Option, Some, None, ⊤, true, Bool, false}
+use Rattle.std.specs.Prelude.{◌≡◌, ℕ, ◌<◌, List, Option, Some, None, ⊤, true}
+use Rattle.std.specs.Sync.Mutex.{mutex_guard_value}
+use Rattle.std.specs.declared.sync.MutexGuard.{MutexGuard}
 use Rattle.std.specs.List.{AllByRecursion}
 use Rattle.ll_seq.specs.Passed.{has_path}
 use Rattle.ll_seq.specs.declared.call.Call.{Call}
@@ -7,14 +9,15 @@ use Rattle.ll_journal.specs.declared.direct.Made.{Made}
 use Rattle.ll_journal.specs.declared.next.Next.{Next}
 use Rattle.ll_journal.specs.declared.next.Next.TheVariants as next
 use Rattle.ll_journal.specs.Book.{Book, Spares}
-use Rattle.ll_journal.specs.NextStep.{ComesNext, IsNamed}
-use Rattle.ll_journal.specs.Steps.{IsInTurn}
+use Rattle.ll_journal.specs.NextStep.{IsNamed}
 use Rattle.ll_client.specs.Entries.{Kept, Knows}
 use Rattle.ll_client.specs.Coming.{kept_by, kept_numbers}
 use Rattle.ll_client.specs.Gains.{Gains}
 use Rattle.ll_journal.specs.declared.direct.Made.TheVariants as made
 use Rattle.ll_client.specs.declared.left.Left.{Left}
 use Rattle.ll_client.specs.declared.left.Left.TheVariants as left
+use Rattle.ll_walk.specs.declared.held.Branch.{Branch}
+use Rattle.ll_walk.specs.declared.held.Branch.TheVariants as branch
 
 -- the result of the call, if the walk has ended
 abbrev pub made_of : Left → Option Made
@@ -52,13 +55,13 @@ AreThere slots (next.Commit needed) = AllByRecursion (λ slot. slot < slots) nee
 abbrev pub IsReady : ℕ → Option Call → Kept → Next → Type 0
 IsReady slots doing here next = AreThere slots next × IsNamed doing here.held next
 
--- This step of the client's walk comes next, seen from the one slot, or if its leg in turn isn't there from the other
-abbrev pub ComesFrom : Book → ℕ → ℕ → ℕ → Next → Type 0
-ComesFrom b number one other next =
-    ComesNext b number one next ⊎ ((IsInTurn b number one → ⊥) × ComesNext b number other next)
+-- what is behind this lock, or behind the other if this one isn't held
+abbrev pub place_or : Option (MutexGuard Kept) → MutexGuard Kept → Kept
+place_or None common = mutex_guard_value common
+place_or (Some guard) common = mutex_guard_value guard
 
--- For the next step of a walk: the slots that it needs exist; and above the fork, where the walk is in this slot's
--- directory, that has its name
-abbrev pub IsOutlook : ℕ → Option Call → Kept → Bool → Next → Type 0
-IsOutlook slots doing here is_forked next =
-    AreThere slots next × (is_forked ≡ false → IsReady slots doing here next)
+-- the directory of a leg: of a branch its own, or else the one where the walk is or forked
+abbrev pub leg_at : Option Branch → MutexGuard Kept → Option (MutexGuard Kept) → Option (MutexGuard Kept) → Kept
+leg_at None common first second = mutex_guard_value common
+leg_at (Some branch.First) common first second = place_or first common
+leg_at (Some branch.Second) common first second = place_or second common

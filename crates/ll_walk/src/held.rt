@@ -1,24 +1,33 @@
 //! The locks that a walk holds past its fork.
 
-ghost use Rattle.std.specs.Prelude.{◌≡◌, ◌<◌, ◌≤◌, ◌+◌, ℕ, IfSome, length};
+ghost use Rattle.std.specs.Prelude.{◌≡◌, ◌<◌, ◌≤◌, ◌+◌, ℕ, IfSome, None, Some, length};
 ghost use Rattle.std.specs.List.{AllByRecursion};
 ghost use Rattle.std.specs.Sync.Mutex.{mutex_guard_value};
 ghost use Rattle.ll_client.specs.Entries.{Kept};
 ghost use Rattle.ll_client.specs.Gains.{Goes};
 ghost use Rattle.ll_client.specs.declared.lent.TheConstants.{LENT_SLOTS};
-ghost use Rattle.ll_walk.specs.Sections.{AreThere};
+ghost use Rattle.ll_walk.specs.Sections.{leg_at, place_or};
 
 use crate::section::Section;
 use ll_client::{Account, Leaving, Left, Locked, Place, Places, Rider, Shape, Tie};
-use ll_journal::Next;
+use ll_journal::Onward;
 use std::sync::MutexGuard;
 
-/// The lock of the fork's directory; and for each leg the lock of its directory, if that is another one.
+/// A leg of a walk past its fork.
+#[derive(Clone, Copy, PartialEq, Eq)]
+pub(crate) enum Branch {
+    First,
+    Second,
+}
+
+/// The locks that a walk holds: of the directory where it is, or forked; and for each branch of its directory, if that
+/// is another one. `seen` says in which one the walk's next step was found: a branch's, or else the fork's.
 #[derive(Drop)]
 pub(crate) struct Split<'a, N: Shape> {
     pub common: MutexGuard<'a, Locked<N>>,
     pub first: Place<'a, N>,
     pub second: Place<'a, N>,
+    pub seen: Option<Branch>,
 }
 
 /// Returns the first of these slots whose lock isn't held.
@@ -72,14 +81,59 @@ fn number_in<N: Shape>(place: &Place<'_, N>, otherwise: u64) -> u64 {
 }
 
 impl<'a, N: Shape> Split<'a, N> {
-    /// The lock of a walk above its fork, which is in this directory.
+    /// The lock of a walk above its fork, which is in this directory, where its next step was found.
     pub(crate) fn of(here: MutexGuard<'a, Locked<N>>) -> Split<'a, N>
-        ensures { mutex_guard_value {X = Kept} result.common ≡ mutex_guard_value {X = Kept} here.entry }
+        ensures common { mutex_guard_value {X = Kept} result.common ≡ mutex_guard_value {X = Kept} here.entry }
+        ensures seen { result.seen ≡ None }
     {
         Split {
             common: here,
             first: None,
             second: None,
+            seen: None,
+        }
+    }
+
+    /// Returns the descent as a hint, if it was found where it begins.
+    pub(crate) fn hint(&self, leg: Option<Branch>, on: Onward) -> Option<Onward>
+        ensures { IfSome result (λ hint. (hint ≡ on)
+            × (leg_at leg self.now.common self.now.first self.now.second
+            ≡ leg_at self.now.seen self.now.common self.now.first self.now.second)) }
+    {
+        let is_at_fork = match leg {
+            None => true,
+            Some(Branch::First) => self.first.is_none(),
+            Some(Branch::Second) => self.second.is_none(),
+        };
+        if self.seen == leg || (self.seen.is_none() && is_at_fork) {
+            Some(on)
+        } else {
+            None
+        }
+    }
+
+    /// Takes the lock of the branch's own directory.
+    pub(crate) fn take(&mut self, branch: Branch) -> Place<'a, N>
+        ensures place { place_or result self.new.common
+            ≡ leg_at (Some branch) self.old.common self.old.first self.old.second }
+        ensures common { self.new.common ≡ self.old.common }
+    {
+        match branch {
+            Branch::First => self.first.take(),
+            Branch::Second => self.second.take(),
+        }
+    }
+
+    /// Puts a lock in its place.
+    pub(crate) fn put(&mut self, branch: Branch, place: Place<'a, N>)
+        ensures place { leg_at (Some branch) self.new.common self.new.first self.new.second
+            ≡ place_or place.entry self.new.common }
+        ensures common { self.new.common ≡ self.old.common }
+        ensures seen { self.new.seen ≡ self.old.seen }
+    {
+        match branch {
+            Branch::First => self.first = place,
+            Branch::Second => self.second = place,
         }
     }
 
@@ -96,32 +150,6 @@ impl<'a, N: Shape> Split<'a, N> {
         ensures { (n : ℕ) → AllByRecursion (λ slot. slot < n) slots.now → IfSome result (λ slot. slot < n) }
     {
         other_than(slots, &self.numbers())
-    }
-
-    /// Finds the next step of a walk past its fork.
-    pub(crate) fn next(
-        &mut self,
-        section: Section<'_, N>,
-        tie: &Tie<N, Account>,
-        me: &mut Rider<N>,
-    ) -> Next
-        ensures there { AreThere N.slots result }
-        ensures mine { me.new ≡ me.old }
-    {
-        let Split {
-            common,
-            first,
-            second,
-        } = self;
-        let (next, spent) = match second {
-            Some(here) => section.next_from(tie, me, here, common),
-            None => match first {
-                Some(here) => section.next_from(tie, me, here, common),
-                None => section.next_here(tie, me, common),
-            },
-        };
-        drop(spent);
-        next
     }
 
     /// Commits or restarts the walk with all held slots, and with one more if given.

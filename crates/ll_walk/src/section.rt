@@ -14,7 +14,7 @@ ghost use Rattle.ll_journal.specs.Stations.{Names};
 ghost use Rattle.ll_journal.specs.Steps.{Does};
 ghost use Rattle.ll_laws.specs.declared.step.Step.TheVariants.{Descend, Fork};
 ghost use Rattle.ll_client.specs.Coming.{place_after};
-ghost use Rattle.ll_walk.specs.Sections.{AreThere, ComesFrom, IsReady, Shows};
+ghost use Rattle.ll_walk.specs.Sections.{IsReady, Shows};
 ghost use Rattle.ll_seq.specs.declared.call.Call.{Call};
 ghost use Rattle.ll_seq.specs.History.{IsLegal};
 ghost use Rattle.ll_seq.specs.State.{root, start};
@@ -77,6 +77,24 @@ pub struct Landing<'a, N: Shape> {
 }
 
 impl<'a, N: Shape> Landing<'a, N> {
+    /// Finds the walk's next step from this slot, if its current leg is there.
+    pub fn next_here(
+        &mut self,
+        tie: &Tie<N, Account>,
+        me: &mut Rider<N>,
+        here: &mut Locked<N>,
+    ) -> Next
+        ensures kept { mutex_guard_value self.new.desk ≡ mutex_guard_value self.old.desk }
+        ensures client { self.new.client ≡ self.old.client }
+        ensures progress { self.new.progress ≡ self.old.progress }
+        ensures here { here.new ≡ here.old }
+        ensures ready { IsReady N.slots me.new.doing here.new result }
+        ensures comes { ComesNext (mutex_guard_value self.old.desk) me.old.number here.old.number result }
+        ensures mine { me.new ≡ me.old }
+    {
+        next_at(&mut self.desk, tie, me, here)
+    }
+
     /// Releases the lock. Returns the call of the gate that a descent owes. None if there was no descent.
     pub fn released(self) -> Option<Due<'a>>
         ensures due { IfSome result (λ due. (self.entry.progress ≡ Progress.Stands due.inode)
@@ -115,41 +133,6 @@ fn next_at<N: Shape>(
     desk.next_step(tie, me, here)
 }
 
-/// Returns the walk's next step: this one, found from the slot at this place, or if its current leg isn't there the one
-/// that is found from the other slot.
-fn next_or<N: Shape>(
-    desk: &mut Desk<N>,
-    tie: &Tie<N, Account>,
-    me: &mut Rider<N>,
-    place: u64,
-    next: Next,
-    other: &mut Locked<N>,
-) -> Next
-    requires comes { ComesNext desk.old me.old.number place next }
-    requires there { AreThere N.slots next }
-    ensures desk { desk.new ≡ desk.old }
-    ensures me { me.new ≡ me.old }
-    ensures other { other.new ≡ other.old }
-    ensures there { AreThere N.slots result }
-    ensures comes { ComesFrom desk.old me.old.number place other.old.number result }
-{
-    let _ = place;
-    match next {
-        Next::Elsewhere => next_at(desk, tie, me, other),
-        next => next,
-    }
-}
-
-/// Returns where the walk is after a descent, if it was made.
-fn place_after(progress: &Progress, from: u64, to: u64) -> u64
-    ensures { result ≡ place_after progress.now from to }
-{
-    match progress {
-        Progress::Stands(_) => to,
-        _ => from,
-    }
-}
-
 impl<'a, N: Shape> Section<'a, N> {
     /// Makes the walk's first descent, to the root, and finds its next step.
     pub fn enter(
@@ -181,16 +164,17 @@ impl<'a, N: Shape> Section<'a, N> {
         (landing, next)
     }
 
-    /// Makes a descent above the fork, to the directory that the last look found, and finds the next step.
+    /// Makes a descent, and finds the next step. If there is a hint, its name names its inode.
     pub fn descend(
         self,
         tie: &Tie<N, Account>,
         me: &mut Rider<N>,
         from: &mut Locked<N>,
         to: &mut Locked<N>,
-        on: Onward,
+        hint: Option<Onward>,
     ) -> (Landing<'a, N>, Next)
-        requires { (call : Call) → me.old.doing ≡ Some call → Names call from.old.held on.name on.inode }
+        requires { IfSome hint (λ on. (call : Call) → me.old.doing ≡ Some call
+            → Names call from.old.held on.name on.inode) }
         ensures step { Does (mutex_guard_value self.entry.desk) (Descend me.old.number) result.0.progress
             (mutex_guard_value result.0.desk) }
         ensures comes { ComesNext (mutex_guard_value result.0.desk) me.old.number
@@ -205,78 +189,8 @@ impl<'a, N: Shape> Section<'a, N> {
     {
         let Section { mut desk } = self;
         let client = me.number();
-        let Descent { progress, next } = desk.descend(tie, me, from, to, Some(on));
+        let Descent { progress, next } = desk.descend(tie, me, from, to, hint);
         desk.by_law();
-        let landing = Landing {
-            desk,
-            client,
-            progress,
-        };
-        (landing, next)
-    }
-
-    /// Makes a descent from the fork's directory, and finds the next step.
-    pub fn descend_from_fork(
-        self,
-        tie: &Tie<N, Account>,
-        me: &mut Rider<N>,
-        from: &mut Locked<N>,
-        to: &mut Locked<N>,
-    ) -> (Landing<'a, N>, Next)
-        ensures step { Does (mutex_guard_value self.entry.desk) (Descend me.old.number) result.0.progress
-            (mutex_guard_value result.0.desk) }
-        ensures comes { ComesFrom (mutex_guard_value result.0.desk) me.old.number
-            (place_after result.0.progress from.old to.old).number from.old.number result.1 }
-        ensures shows { Shows (mutex_guard_value self.entry.desk) (mutex_guard_value result.0.desk)
-            (from.old ∷ to.old ∷ []) (from.new ∷ to.new ∷ []) }
-        ensures stands { (inode : ℕ) → result.0.progress ≡ Progress.Stands inode
-            → (to.new.held.inode ≡ inode) × (to.new.held.node.mark ≡ Some me.old.number) }
-        ensures client { result.0.client ≡ me.old.number }
-        ensures there { AreThere N.slots result.1 }
-        ensures mine { me.new ≡ me.old }
-    {
-        let Section { mut desk } = self;
-        let client = me.number();
-        let Descent { progress, next } = desk.descend(tie, me, from, to, None);
-        desk.by_law();
-        let place = place_after(&progress, from.number(), to.number());
-        let next = next_or(&mut desk, tie, me, place, next, from);
-        let landing = Landing {
-            desk,
-            client,
-            progress,
-        };
-        (landing, next)
-    }
-
-    /// Makes a descent from below the fork's directory, whose lock is held too, and finds the next step.
-    pub fn descend_below(
-        self,
-        tie: &Tie<N, Account>,
-        me: &mut Rider<N>,
-        common: &mut Locked<N>,
-        from: &mut Locked<N>,
-        to: &mut Locked<N>,
-    ) -> (Landing<'a, N>, Next)
-        ensures step { Does (mutex_guard_value self.entry.desk) (Descend me.old.number) result.0.progress
-            (mutex_guard_value result.0.desk) }
-        ensures comes { ComesFrom (mutex_guard_value result.0.desk) me.old.number
-            (place_after result.0.progress from.old to.old).number common.old.number result.1 }
-        ensures shows { Shows (mutex_guard_value self.entry.desk) (mutex_guard_value result.0.desk)
-            (from.old ∷ to.old ∷ []) (from.new ∷ to.new ∷ []) }
-        ensures stands { (inode : ℕ) → result.0.progress ≡ Progress.Stands inode
-            → (to.new.held.inode ≡ inode) × (to.new.held.node.mark ≡ Some me.old.number) }
-        ensures client { result.0.client ≡ me.old.number }
-        ensures common { common.new ≡ common.old }
-        ensures there { AreThere N.slots result.1 }
-        ensures mine { me.new ≡ me.old }
-    {
-        let Section { mut desk } = self;
-        let client = me.number();
-        let Descent { progress, next } = desk.descend(tie, me, from, to, None);
-        desk.by_law();
-        let place = place_after(&progress, from.number(), to.number());
-        let next = next_or(&mut desk, tie, me, place, next, common);
         let landing = Landing {
             desk,
             client,
@@ -297,35 +211,13 @@ impl<'a, N: Shape> Section<'a, N> {
         ensures comes { ComesNext (mutex_guard_value result.2.desk) me.old.number here.old.number result.1 }
         ensures shows { Shows (mutex_guard_value self.entry.desk) (mutex_guard_value result.2.desk) [] [] }
         ensures here { here.new ≡ here.old }
-        ensures there { AreThere N.slots result.1 }
+        ensures ready { IsReady N.slots me.new.doing here.new result.1 }
         ensures mine { me.new ≡ me.old }
     {
         let Section { mut desk } = self;
         let progress = desk.fork(tie, me);
         let next = next_at(&mut desk, tie, me, here);
         (progress, next, Spent { desk })
-    }
-
-    /// Finds the next step of a walk whose current leg is in one of the two slots.
-    pub fn next_from(
-        self,
-        tie: &Tie<N, Account>,
-        me: &mut Rider<N>,
-        one: &mut Locked<N>,
-        other: &mut Locked<N>,
-    ) -> (Next, Spent<'a, N>)
-        ensures kept { mutex_guard_value result.1.desk ≡ mutex_guard_value self.entry.desk }
-        ensures one { one.new ≡ one.old }
-        ensures other { other.new ≡ other.old }
-        ensures there { AreThere N.slots result.0 }
-        ensures comes { ComesFrom (mutex_guard_value self.entry.desk) me.old.number one.old.number
-            other.old.number result.0 }
-        ensures mine { me.new ≡ me.old }
-    {
-        let Section { mut desk } = self;
-        let next = next_at(&mut desk, tie, me, one);
-        let next = next_or(&mut desk, tie, me, one.number(), next, other);
-        (next, Spent { desk })
     }
 
     /// Finds the walk's next step, from the slot where it is.

@@ -1,18 +1,17 @@
 //! One start of a walk, from the root to its reply.
 
 ghost use Rattle.std.specs.Prelude.{◌≡◌, ◌<◌, IfSome};
+ghost use Rattle.std.specs.List.{AllByRecursion};
 ghost use Rattle.std.specs.Sync.Mutex.{mutex_guard_value};
-ghost use Rattle.ll_walk.specs.Sections.{Came};
-ghost use Rattle.ll_client.specs.Entries.{Kept};
-ghost use Rattle.ll_walk.specs.Sections.{made_of};
-ghost use Rattle.ll_walk.specs.Sections.{IsOutlook};
+ghost use Rattle.ll_walk.specs.Sections.{Came, made_of, IsReady, leg_at};
+ghost use Rattle.ll_client.specs.Gains.{Goes};
 
 use crate::gate::Gate;
-use crate::held::{Split, unless_held};
+use crate::held::{Branch, Split, unless_held};
 use crate::table::Table;
 use crate::waiter::Waiter;
 use ll_client::{Leaving, Left, Locked, Rider, Shape};
-use ll_journal::{Made, Next, Progress, Turn};
+use ll_journal::{Made, Next, Progress};
 use std::sync::Wait;
 
 /// The result of the call, if the walk has ended.
@@ -28,26 +27,49 @@ fn made_of(left: Left) -> Option<Made>
 }
 
 impl<N: Shape, G: Gate<N>> Table<N, G> {
-    /// Looks for the walk's next step.
+    /// Looks for the walk's next step in this slot's directory.
+    fn look_in<R: Wait>(
+        &self,
+        waiter: &mut Waiter<'_, R>,
+        me: &mut Rider<N>,
+        here: &mut Locked<N>,
+    ) -> Next
+        ensures here { here.new ≡ here.old }
+        ensures ready { IsReady N.slots me.new.doing here.new result }
+        ensures mine { me.new ≡ me.old }
+    {
+        let (next, spent) = waiter.section(self).next_here(&self.tie, me, here);
+        drop(spent);
+        next
+    }
+
+    /// Looks for the walk's next step where its branches are, if it has some, and then where it is or forked.
     fn look<R: Wait>(
         &self,
         waiter: &mut Waiter<'_, R>,
         me: &mut Rider<N>,
         split: &mut Split<'_, N>,
-        is_forked: bool,
     ) -> Next
-        ensures known { IsOutlook N.slots me.new.doing (mutex_guard_value {X = Kept} split.new.common) is_forked
-            result }
+        ensures ready { IsReady N.slots me.new.doing
+            (leg_at split.new.seen split.new.common split.new.first split.new.second) result }
         ensures mine { me.new ≡ me.old }
     {
-        let section = waiter.section(self);
-        if is_forked {
-            split.next(section, &self.tie, me)
-        } else {
-            let (next, spent) = section.next_here(&self.tie, me, &mut split.common);
-            drop(spent);
-            next
+        if let Some(here) = &mut split.second {
+            let next = self.look_in(waiter, me, here);
+            if !matches!(next, Next::Elsewhere) {
+                split.seen = Some(Branch::Second);
+                return next;
+            }
         }
+        if let Some(here) = &mut split.first {
+            let next = self.look_in(waiter, me, here);
+            if !matches!(next, Next::Elsewhere) {
+                split.seen = Some(Branch::First);
+                return next;
+            }
+        }
+        split.seen = None;
+        self.look_in(waiter, me, &mut split.common)
     }
 
     /// Looks in this slot's directory for a node that another walk has marked and that delays this one's answer.
@@ -85,6 +107,90 @@ impl<N: Shape, G: Gate<N>> Table<N, G> {
         waiter.wait_for(self, unless_held(way, &split.numbers()));
     }
 
+    /// Waits for who is in the way, and looks again.
+    fn wait<R: Wait>(
+        &self,
+        waiter: &mut Waiter<'_, R>,
+        me: &mut Rider<N>,
+        split: &mut Split<'_, N>,
+    ) -> Next
+        ensures ready { IsReady N.slots me.new.doing
+            (leg_at split.new.seen split.new.common split.new.first split.new.second) result }
+        ensures mine { me.new ≡ me.old }
+    {
+        self.wait_for_way(waiter, me, split);
+        self.look(waiter, me, split)
+    }
+
+    /// Forks the walk. Returns the next step.
+    fn fork<R: Wait>(
+        &self,
+        waiter: &mut Waiter<'_, R>,
+        me: &mut Rider<N>,
+        split: &mut Split<'_, N>,
+    ) -> Next
+        ensures ready { IsReady N.slots me.new.doing
+            (leg_at split.new.seen split.new.common split.new.first split.new.second) result }
+        ensures mine { me.new ≡ me.old }
+    {
+        let section = waiter.section(self);
+        let (progress, next, spent) = section.fork(&self.tie, me, &mut split.common);
+        drop(spent);
+        if progress == Progress::Forked {
+            split.seen = None;
+            return next;
+        }
+        drop(next);
+        self.wait(waiter, me, split)
+    }
+
+    /// Restarts the walk.
+    fn restart<R: Wait>(
+        &self,
+        waiter: &mut Waiter<'_, R>,
+        me: &mut Rider<N>,
+        split: &mut Split<'_, N>,
+    ) -> Left
+        ensures { Goes N.limit me.old result me.new }
+    {
+        let mut last = None;
+        let left = split.leave(
+            waiter.section(self),
+            &self.tie,
+            me,
+            &mut last,
+            Leaving::Restart,
+        );
+        drop(last);
+        left
+    }
+
+    /// Commits the walk, which may need these slots.
+    fn commit<'a, R: Wait>(
+        &'a self,
+        waiter: &mut Waiter<'_, R>,
+        me: &mut Rider<N>,
+        split: &mut Split<'a, N>,
+        slots: &[u64],
+    ) -> Left
+        requires { AllByRecursion (λ slot. slot < N.slots) slots.now }
+        ensures { Goes N.limit me.old result me.new }
+    {
+        let mut last = match split.other_than(slots) {
+            Some(slot) => Some(waiter.locked(self, slot)),
+            None => None,
+        };
+        let left = split.leave(
+            waiter.section(self),
+            &self.tie,
+            me,
+            &mut last,
+            Leaving::Commit,
+        );
+        drop(last);
+        left
+    }
+
     /// Makes one start of the client's walk. None if it has restarted, above the root.
     #[tactic(auto, using(crate::proofs::Walks::came_as, crate::proofs::Walks::stays, crate::proofs::Walks::again))]
     pub(crate) fn start<R: Wait>(
@@ -96,72 +202,34 @@ impl<N: Shape, G: Gate<N>> Table<N, G> {
     {
         let (root, mut next) = self.enter(waiter, me);
         let mut split = Split::of(root);
-        let mut is_forked = false;
         for _ in waiter.forever() {
-            let mut last = None;
-            let mut leaving = None;
-            match next {
+            let left = match next {
                 Next::Descend(on) => {
-                    next = if !is_forked {
-                        let (here, then) = self.further(waiter, me, split.common, on);
-                        split = Split::of(here);
-                        then
-                    } else if on.name.turn == Turn::First {
-                        let from = split.first.take();
-                        let (place, then) = self.below(
-                            waiter,
-                            me,
-                            &mut split.common,
-                            from,
-                            on.slot,
-                        );
-                        split.first = place;
-                        then
-                    } else {
-                        let from = split.second.take();
-                        let (place, then) = self.below(
-                            waiter,
-                            me,
-                            &mut split.common,
-                            from,
-                            on.slot,
-                        );
-                        split.second = place;
-                        then
-                    };
+                    next = self.descend(waiter, me, &mut split, on);
                     continue;
                 }
                 Next::Fork => {
-                    let section = waiter.section(self);
-                    let (progress, then, spent) = section.fork(&self.tie, me, &mut split.common);
-                    drop(spent);
-                    if progress == Progress::Forked {
-                        is_forked = true;
-                        next = then;
-                        continue;
-                    }
+                    next = self.fork(waiter, me, &mut split);
+                    continue;
                 }
-                Next::Restart(_) => leaving = Some(Leaving::Restart),
+                Next::Restart(slots) => {
+                    drop(slots);
+                    self.restart(waiter, me, &mut split)
+                }
                 Next::Commit(slots) => {
-                    if let Some(slot) = split.other_than(slots.as_slice()) {
-                        last = Some(waiter.locked(self, slot));
-                    }
-                    leaving = Some(Leaving::Commit);
+                    let left = self.commit(waiter, me, &mut split, slots.as_slice());
+                    drop(slots);
+                    left
                 }
-                Next::Nothing | Next::Elsewhere | Next::Enter(_) => {}
+                Next::Nothing | Next::Elsewhere | Next::Enter(_) => Left::NotNow,
+            };
+            if let Left::Again = left {
+                return None;
             }
-            if let Some(leaving) = leaving {
-                let left = split.leave(waiter.section(self), &self.tie, me, &mut last, leaving);
-                if let Left::Again = left {
-                    return None;
-                }
-                if let Some(made) = made_of(left) {
-                    return Some(made);
-                }
+            if let Some(made) = made_of(left) {
+                return Some(made);
             }
-            drop(last);
-            self.wait_for_way(waiter, me, &mut split);
-            next = self.look(waiter, me, &mut split, is_forked);
+            next = self.wait(waiter, me, &mut split);
         }
         unreachable!()
     }
