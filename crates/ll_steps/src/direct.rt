@@ -61,10 +61,11 @@ impl World {
     {
         let number = self.journal.entries().len() as u64;
         match self.journal.start(client, call) {
-            Start::Made(answer) => Some(answered(number, answer)),
-            Start::Begun => None,
-            Start::Back(_) => Some(Report::NotNow),
+            Start::Made(answer) => return Some(answered(number, answer)),
+            Start::Begun => return None,
+            Start::Back(call) => drop(call),
         }
+        Some(Report::NotNow)
     }
 
     /// Makes the client's call on a descriptor. Errors: the call, if it isn't made.

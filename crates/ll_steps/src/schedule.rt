@@ -81,13 +81,9 @@ impl<W: Witness> Schedule<W> {
         let Some(bytes) = line.bytes() else {
             return Err(Errno::BadLine);
         };
-        match read_schedule_line(self.alloc, bytes, self.world.clients()) {
-            Ok(line) => {
-                self.witness.expect(&self.world, &line);
-                Ok(done(&mut self.world, line))
-            }
-            Err(errno) => Err(errno),
-        }
+        let line = read_schedule_line(self.alloc, bytes, self.world.clients())?;
+        self.witness.expect(&self.world, &line);
+        Ok(done(&mut self.world, line))
     }
 
     /// Does what the line asks for, counts it, and lets the witness see it. Returns its report. Errors: why the line

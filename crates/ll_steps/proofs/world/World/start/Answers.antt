@@ -38,5 +38,5 @@ returns-clause-stops c =
     subst (λ (v : World).
     Waits v (FdCommit c.args.client c.args.call) → Calls v c.args.client c.args.call NotNow c.start.new.self.world)
     c.self.view_is
-    (back_calls c.self.inside.journal c.start.new.self c.args.client c.args.call c.in-Back.field-0
+    (back_calls c.self.inside.journal c.start.new.self c.args.client c.args.call c.in-Back.call
     c.in-Back.ensures.starts)
