@@ -2,6 +2,7 @@
 
 ghost use Rattle.std.specs.Prelude.{◌≡◌, ◌++◌, flat_map};
 
+use crate::nowhere::dead_end;
 use crate::stream::Served;
 use ll_client::{Client, Shape};
 use std::sync::Wait;
@@ -12,7 +13,7 @@ pub fn add_all<N: Shape, H: Wait>(rt: &H, all: &mut Vec<Client<N>>, clients: Vec
 {
     let mut clients = clients;
     if all.append(&mut clients).is_err() {
-        for _ in rt.forever() {}
+        dead_end(rt);
         unreachable!()
     }
     clients.destroy_empty();

@@ -18,6 +18,7 @@ ghost use Rattle.ll_session.specs.PartySession.{Session, Connects, joined};
 ghost use Rattle.ll_session.specs.Talk.{Asks, AsksFor, IsMet, Looks, reply_of, seen_by};
 
 use crate::clients::{close_all, meet_all, reply_to};
+use crate::nowhere::dead_end;
 use ll_calls::{Gate, ReadsHistory, Tree};
 use ll_client::{Client, Shape};
 use ll_rights::Errno;
@@ -146,7 +147,7 @@ impl<N: Shape> Party<N> {
         ensures { self.new ≡ self.old ++ client.rider ∷ [] }
     {
         if self.clients.len() >= TREE_CLIENTS {
-            for _ in rt.forever() {}
+            dead_end(rt);
             unreachable!()
         }
         self.last = self.clients.len();
