@@ -1,10 +1,9 @@
-//! Devices for tests. They read and write one byte at a time, and fail after their calls are used up. The sink counts
-//! its failures.
+//! A reader for tests. It reads one byte at a time, and fails after its calls are used up.
 
 ghost use Rattle.std.specs.Prelude.{Some};
 
 use std::io;
-use std::io::{ErrorKind, Read, Write};
+use std::io::{ErrorKind, Read};
 
 #[derive(Drop)]
 pub struct Source<'a> {
@@ -31,66 +30,5 @@ impl Read for Source<'_> {
                 Ok(1)
             }
         }
-    }
-}
-
-#[derive(Drop)]
-pub struct Sink {
-    pub held: Vec<u8>,
-    pub calls: usize,
-    pub failures: usize,
-}
-
-impl Write for Sink {
-    ghost contents = { λ sink. Some sink.held.items };
-
-    fn write(&mut self, buf: &[u8]) -> io::Result<usize> {
-        if self.calls == 0 {
-            self.failures = self.failures.saturating_add(1);
-            return Err(io::Error::from(ErrorKind::Other));
-        }
-        self.calls -= 1;
-        match buf {
-            [] => Ok(0),
-            [first, ..] => {
-                self.held.push(*first)?;
-                Ok(1)
-            }
-        }
-    }
-
-    fn flush(&mut self) -> io::Result<()> {
-        Ok(())
-    }
-}
-
-/// Writes one byte at a time, and none after its calls are used up. Counts how often it wrote none.
-#[derive(Drop)]
-pub struct Stuck {
-    pub held: Vec<u8>,
-    pub calls: usize,
-    pub stops: usize,
-}
-
-impl Write for Stuck {
-    ghost contents = { λ stuck. Some stuck.held.items };
-
-    fn write(&mut self, buf: &[u8]) -> io::Result<usize> {
-        if self.calls == 0 {
-            self.stops = self.stops.saturating_add(1);
-            return Ok(0);
-        }
-        self.calls -= 1;
-        match buf {
-            [] => Ok(0),
-            [first, ..] => {
-                self.held.push(*first)?;
-                Ok(1)
-            }
-        }
-    }
-
-    fn flush(&mut self) -> io::Result<()> {
-        Ok(())
     }
 }

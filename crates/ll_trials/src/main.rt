@@ -11,19 +11,19 @@
 //! | ll_rights | | `Access::text`: `wire` |
 //! | ll_path | `Name::from_text`, `Word` and `Data` of lines | `Path::common`, which takes none: `path` |
 //! | ll_rules | `Ruleset::create`, `allow`, `Domain::stack`, `copy` | `Ruleset::copy`: `seq` |
-//! | ll_seq | all but the counts of nodes, and histories | these: `seq`, `saved` |
+//! | ll_seq | all but the counts of nodes | these: `seq` |
 //! | ll_node | | all of `Slot`: `node` |
 //! | ll_plain | `Plain::new`, each call of `Plain::apply` | `Plain::reach`, which takes none: `plain` |
 //! | ll_wire | `read_command`, `reply_text` | `command_text`, `read_reply`: `wire` |
-//! | | `Line::new`, `Line::push` | entries and headers: `saved` |
+//! | | `Line::new`, `Line::push`, entries and headers | |
 //! | ll_policy | | all of `Policy`: `policy` |
-//! | ll_audit | all but `audit` | `audit`; `save`, `run_audit` with devices that fail: `saved` |
+//! | ll_audit | all but `audit`, `run_audit` | `audit`: the storm; `run_audit`: `script` |
 //! | ll_client | | `Blank`, `Tie`, `Keeper`, `Pass`: `tie` |
 //! | | | `open`, `connect`, `spawn`; `begin`, `enter`, `next_step`, `leave`: `desk` |
 //! | ll_journal | | `Journal::new`, `connect`, `client_step`; `begin`, which takes none: `journal` |
 //! | ll_walk | | `Table::open`, `connect`, `call`: `threads` |
 //! | ll_calls | | `Tree::open`, `connect`, `meet`, `close` and calls: `clients`, `shared_tree` |
-//! | ll_session | `run_script` | with devices that fail: `session` |
+//! | ll_session | sessions | `run_script`: `script` |
 //! | ll_steps | `World::new`, `step`, `make` | `World::run`: `steps` |
 //! | | | `read`, `list`, whose replies are copied: `replies` |
 //!
@@ -67,11 +67,9 @@ mod replies;
 #[cfg(test)]
 mod rights;
 #[cfg(test)]
-mod saved;
+mod script;
 #[cfg(test)]
 mod seq;
-#[cfg(test)]
-mod session;
 #[cfg(test)]
 mod shared_tree;
 #[cfg(test)]
