@@ -12,8 +12,8 @@
 
    A read or a reception then gives, and a write or a sending takes, 40 bytes at most. The file REFUSE_TOLD has the
    number of these calls so far, as an unsigned long; it stays right however the program ends.
-   REFUSE_ERROR is the error's number, if it isn't to be the usual one; REFUSE_BY is a signal that ends the program in
-   place of an error. */
+   REFUSE_ERROR is the error's number, if it isn't to be the usual one, or -1 for a transfer of nothing; REFUSE_BY is a
+   signal that ends the program in place of an error. */
 #define _GNU_SOURCE
 #include <dlfcn.h>
 #include <errno.h>
@@ -65,6 +65,7 @@ static int is_refused(void) { return atomic_fetch_add(asked, 1) + 1 == which; }
 /* Refuses this call by the error, or by what is wanted in its stead. */
 static int refuse(int error) {
     if (by) kill(getpid(), by), pause();
+    if (instead < 0) return 0;
     errno = instead ? instead : error;
     return -1;
 }
