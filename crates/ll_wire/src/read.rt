@@ -66,10 +66,8 @@ fn make(alloc: Global, args: &[&str]) -> Result<Call, Errno>
     let Some(kind) = Kind::parse(kind) else {
         return Err(Errno::BadLine);
     };
-    match target_of(alloc, path) {
-        Ok(target) => Ok(Call::Make(kind, target)),
-        Err(errno) => Err(errno),
-    }
+    let target = target_of(alloc, path)?;
+    Ok(Call::Make(kind, target))
 }
 
 fn open(alloc: Global, args: &[&str]) -> Result<Call, Errno>
@@ -81,10 +79,8 @@ fn open(alloc: Global, args: &[&str]) -> Result<Call, Errno>
     let Some(mode) = mode_of(mode) else {
         return Err(Errno::BadLine);
     };
-    match target_of(alloc, path) {
-        Ok(target) => Ok(Call::Open(mode, target)),
-        Err(errno) => Err(errno),
-    }
+    let target = target_of(alloc, path)?;
+    Ok(Call::Open(mode, target))
 }
 
 fn read(args: &[&str]) -> Result<Call, Errno>
@@ -111,10 +107,8 @@ fn write(alloc: Global, args: &[&str]) -> Result<Call, Errno>
     let Some(offset) = number_of(offset) else {
         return Err(Errno::BadLine);
     };
-    match data_of(alloc, bytes) {
-        Ok(bytes) => Ok(Call::Write(fd, offset, bytes)),
-        Err(errno) => Err(errno),
-    }
+    let bytes = data_of(alloc, bytes)?;
+    Ok(Call::Write(fd, offset, bytes))
 }
 
 fn ftruncate(args: &[&str]) -> Result<Call, Errno>
@@ -150,10 +144,8 @@ fn truncate(alloc: Global, args: &[&str]) -> Result<Call, Errno>
     let Some(size) = number_of(size) else {
         return Err(Errno::BadLine);
     };
-    match target_of(alloc, path) {
-        Ok(target) => Ok(Call::Truncate(target, size)),
-        Err(errno) => Err(errno),
-    }
+    let target = target_of(alloc, path)?;
+    Ok(Call::Truncate(target, size))
 }
 
 // The path argument of a call that has one and nothing else.
@@ -205,10 +197,8 @@ fn allow(alloc: Global, args: &[&str]) -> Result<Call, Errno>
     let Some(rights) = Access::parse(rights) else {
         return Err(Errno::BadLine);
     };
-    match target_of(alloc, path) {
-        Ok(target) => Ok(Call::Allow(ruleset, target, rights)),
-        Err(errno) => Err(errno),
-    }
+    let target = target_of(alloc, path)?;
+    Ok(Call::Allow(ruleset, target, rights))
 }
 
 fn confine(args: &[&str]) -> Result<Call, Errno>
