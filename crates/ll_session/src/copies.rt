@@ -17,35 +17,56 @@ fn copied(alloc: Global, target: &Target) -> Result<Target, AllocError>
     }
 }
 
+// Returns copies of two path arguments.
+fn both_copied(alloc: Global, one: &Target, other: &Target) -> Result<(Target, Target), AllocError>
+    ensures { IfOk result (λ copies. (copies.0 ≡ one.now) × (copies.1 ≡ other.now)) }
+{
+    let one = copied(alloc, one)?;
+    let other = copied(alloc, other)?;
+    Ok((one, other))
+}
+
 /// Copies a call. Errors: memory ran out.
 pub fn copy_call(alloc: Global, call: &Call) -> Result<Call, AllocError>
     ensures { IfOk result (λ copy. copy ≡ call.now) }
 {
-    Ok(match call {
-        Call::Make(kind, path) => Call::Make(*kind, copied(alloc, path)?),
-        Call::Open(mode, path) => Call::Open(*mode, copied(alloc, path)?),
-        Call::Read(number, offset, len) => Call::Read(*number, *offset, *len),
-        Call::Write(number, offset, data) => Call::Write(*number, *offset, data.copy()?),
-        Call::Ftruncate(number, len) => Call::Ftruncate(*number, *len),
-        Call::Close(number) => Call::Close(*number),
-        Call::Truncate(path, len) => Call::Truncate(copied(alloc, path)?, *len),
-        Call::ReadDir(path) => Call::ReadDir(copied(alloc, path)?),
-        Call::Stat(path) => Call::Stat(copied(alloc, path)?),
-        Call::Exec(path) => Call::Exec(copied(alloc, path)?),
-        Call::Unlink(path) => Call::Unlink(copied(alloc, path)?),
-        Call::Rmdir(path) => Call::Rmdir(copied(alloc, path)?),
-        Call::Rename(one, other) => Call::Rename(copied(alloc, one)?, copied(alloc, other)?),
-        Call::RenameNoreplace(one, other) => {
-            Call::RenameNoreplace(copied(alloc, one)?, copied(alloc, other)?)
+    match call {
+        Call::Make(kind, path) => Ok(Call::Make(*kind, copied(alloc, path)?)),
+        Call::Open(mode, path) => Ok(Call::Open(*mode, copied(alloc, path)?)),
+        Call::Read(number, offset, len) => Ok(Call::Read(*number, *offset, *len)),
+        Call::Write(number, offset, data) => Ok(Call::Write(*number, *offset, data.copy()?)),
+        Call::Ftruncate(number, len) => Ok(Call::Ftruncate(*number, *len)),
+        Call::Close(number) => Ok(Call::Close(*number)),
+        Call::Truncate(path, len) => Ok(Call::Truncate(copied(alloc, path)?, *len)),
+        Call::ReadDir(path) => Ok(Call::ReadDir(copied(alloc, path)?)),
+        Call::Stat(path) => Ok(Call::Stat(copied(alloc, path)?)),
+        Call::Exec(path) => Ok(Call::Exec(copied(alloc, path)?)),
+        Call::Unlink(path) => Ok(Call::Unlink(copied(alloc, path)?)),
+        Call::Rmdir(path) => Ok(Call::Rmdir(copied(alloc, path)?)),
+        Call::Rename(one, other) => {
+            let (one, other) = both_copied(alloc, one, other)?;
+            Ok(Call::Rename(one, other))
         }
-        Call::Exchange(one, other) => Call::Exchange(copied(alloc, one)?, copied(alloc, other)?),
-        Call::Link(one, other) => Call::Link(copied(alloc, one)?, copied(alloc, other)?),
-        Call::Ruleset(rights) => Call::Ruleset(*rights),
-        Call::Allow(number, path, rights) => Call::Allow(*number, copied(alloc, path)?, *rights),
-        Call::Confine(number) => Call::Confine(*number),
-        Call::Spawn => Call::Spawn,
-        Call::Connect => Call::Connect,
-    })
+        Call::RenameNoreplace(one, other) => {
+            let (one, other) = both_copied(alloc, one, other)?;
+            Ok(Call::RenameNoreplace(one, other))
+        }
+        Call::Exchange(one, other) => {
+            let (one, other) = both_copied(alloc, one, other)?;
+            Ok(Call::Exchange(one, other))
+        }
+        Call::Link(one, other) => {
+            let (one, other) = both_copied(alloc, one, other)?;
+            Ok(Call::Link(one, other))
+        }
+        Call::Ruleset(rights) => Ok(Call::Ruleset(*rights)),
+        Call::Allow(number, path, rights) => {
+            Ok(Call::Allow(*number, copied(alloc, path)?, *rights))
+        }
+        Call::Confine(number) => Ok(Call::Confine(*number)),
+        Call::Spawn => Ok(Call::Spawn),
+        Call::Connect => Ok(Call::Connect),
+    }
 }
 
 /// Copies the calls. Errors: memory ran out.
