@@ -12,7 +12,6 @@ mod granted;
 mod history;
 mod learned_profile;
 mod lines;
-mod opening;
 mod own_runner;
 mod own_tree;
 mod replies;

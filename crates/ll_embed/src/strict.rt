@@ -1,12 +1,10 @@
 //! What ends a strict session.
 
-ghost use Rattle.std.specs.Prelude.{◌≡◌, Some, None, cond};
+ghost use Rattle.std.specs.Prelude.{◌≡◌};
 ghost use Rattle.ll_session.specs.Strict.{ends_strictly, is_of_layers};
-ghost use Rattle.ll_session.specs.declared.stop.Stop.{Stop};
 
 use ll_rights::Errno;
 use ll_seq::{Call, Reply};
-use ll_session::Stop;
 
 /// Reports whether the call sets up layers, or creates a client that has them.
 pub fn is_of_layers(call: &Call) -> bool
@@ -27,15 +25,4 @@ pub fn ends_strictly(of_layers: bool, reply: &Reply) -> bool
         Reply::Refused(_) | Reply::Denied(_) => of_layers,
         _ => false,
     }
-}
-
-/// Returns what ends a run whose opening got this refusal, if it is strict.
-pub fn at_opening(is_strict: bool, reply: Reply) -> Option<Stop>
-    ensures { result ≡ cond is_strict (Some (Stop.AtOpening reply)) None }
-{
-    if is_strict {
-        return Some(Stop::AtOpening(reply));
-    }
-    drop(reply);
-    None
 }
