@@ -22,7 +22,7 @@ use ll_commands::{
     Binds, Film, Log, conclude_schedule, film_by, schedule, schedule_drawn, serve, tell_why,
 };
 use ll_program::{
-    Clash, Conclusion, Device, Failure, Late, NewFile, Purpose, Question, RunOptions,
+    Clash, Conclusion, Device, Failure, Late, NewFile, Purpose, Question, Ran, RunOptions,
     ScheduleOptions, ServeOptions, Shown, Sources, WhyOptions, audit, named, run,
 };
 use ll_wire::Destination;
@@ -59,10 +59,10 @@ fn run_over<H: Wait, P: Read, R: Read, W: Write, F: Destination>(
     script: &mut R,
     out: &mut W,
     file: &mut F,
-) -> Result<Conclusion, Failure>
-    ensures done { IfOk result (λ end. (text : List ℕ) × (script' blank file file' : Option (List ℕ))
+) -> Result<Ran, Failure>
+    ensures done { IfOk result (λ ran. (text : List ℕ) × (script' blank file file' : Option (List ℕ))
         × IfSome (P.remaining policy.old) (λ told. text ≡ told)
-        × IsRun (order_in options.now) text end (R.remaining script.old) script'
+        × IsRun (order_in options.now) text ran.conclusion (R.remaining script.old) script'
         (W.contents out.old) (W.contents out.new) blank file file') }
     ensures failure { IfErr result (λ failure. (text : List ℕ) × (script' : Option (List ℕ))
         × IfSome (P.remaining policy.old) (λ told. text ≡ told)
@@ -104,7 +104,10 @@ fn run_script<S: Sources + Wait, W: Write>(
     hints.of_input("script", &script);
     hints.of_output(&file);
     hints.of_run(options, &ended, &policy, &script);
-    ended
+    match ended {
+        Ok(ran) => Ok(ran.conclusion),
+        Err(failure) => Err(failure),
+    }
 }
 
 // Runs `run`.
@@ -389,7 +392,7 @@ fn serve_port<S: Sources + Threads + Wait + Sync, B: Binds, W: Write>(
     );
     hints.of_input("policy", &policy);
     hints.of_output(&file);
-    hints.of_serving(options, &ended, &policy);
+    hints.of_serving(options, &ended, log.refusal().as_ref(), &policy);
     ended
 }
 

@@ -9,10 +9,11 @@ use crate::misfits::Misfit;
 use crate::refusal::refused_text;
 use ll_audit::{Saved, Verdict};
 use ll_check::{Blame, DeniedTest, FaultyPolicy, LinesOf, Notes, ended, explain};
-use ll_commands::flaw_of;
+use ll_commands::{ProfileNotes, flaw_of};
 use ll_policy::{PlacedFault, Policy, policy_faults, read_document, toml_trouble};
 use ll_program::{Failure, Late, NewFile, Sources, body_of, is_silent};
 use ll_rights::Errno;
+use ll_session::Refusal;
 use ll_why::{WhyStyle, explain_entry, why_not};
 use ll_wire::{Header, escaped, read_command, read_schedule_line, shown, split_line, write_whole};
 use std::alloc::{AllocError, Global};
@@ -194,6 +195,8 @@ pub struct Hints {
     text: String,
     /// How many denied tests were explained.
     denials: usize,
+    /// The profile at which the tables of all have ended.
+    profile: Option<String>,
     ghost only_told: { All IsTold (string_bytes text) },
 }
 
@@ -205,6 +208,7 @@ impl Hints {
             is_wanted: false,
             text: String::new(alloc),
             denials: 0,
+            profile: None,
         }
     }
 
@@ -353,20 +357,14 @@ impl Hints {
         }
     }
 
-    // Adds which call is refused when a tree is opened with this policy, and its reply, if one is: one that creates the
-    // policy's nodes, or one of this profile.
-    fn of_refusal(&mut self, policy: &Policy, given: &Given<'_>, profile: Option<&str>) {
+    /// Adds which call that this policy asks for is refused, and its reply: one that creates the policy's nodes, or one
+    /// of the profile asked for.
+    pub fn of_refusal(&mut self, refusal: &Refusal, given: &Given<'_>) {
         if self.are_missing()
-            && let Ok(Some(refused)) = refused_text(self.alloc, policy, given, profile)
+            && let Some(policy) = policy_of(self.alloc, given.text)
+            && let Ok(refused) = refused_text(self.alloc, &policy, given, refusal)
         {
             let _ = self.push_named(given.name, refused.as_str());
-        }
-    }
-
-    /// Adds which call is refused when a tree is opened with this policy, for the profile asked for, if one is.
-    pub fn of_opening(&mut self, given: &Given<'_>) {
-        if let Some(policy) = policy_of(self.alloc, given.text) {
-            self.of_refusal(&policy, given, given.profile);
         }
     }
 
@@ -378,7 +376,7 @@ impl Hints {
         match failure {
             Failure::Policy(_) => self.of_policy(given),
             Failure::CommandLine => self.of_profile(given),
-            Failure::Opening => self.of_opening(given),
+            Failure::Opening(refusal) => self.of_refusal(refusal, given),
             Failure::File | Failure::Output | Failure::Socket | Failure::NoMemory => {}
         }
     }
@@ -397,22 +395,11 @@ impl Hints {
         }
     }
 
-    // Adds which call of the first of these profiles that has one is refused.
-    fn of_refusals(&mut self, policy: &Policy, given: &Given<'_>, profiles: &[&str]) {
-        for profile in profiles {
-            self.of_refusal(policy, given, Some(profile));
-        }
-    }
-
     /// Adds why a command for all profiles failed, if this policy is the reason: it has a fault, or a call is refused.
     pub fn of_all_profiles(&mut self, failure: &Failure, given: &Given<'_>) {
-        self.of_failure(failure, given);
-        if let Failure::Opening = failure
-            && let Some(policy) = policy_of(self.alloc, given.text)
-            && let Ok(profiles) = policy.names(self.alloc)
-        {
-            self.of_refusals(&policy, given, profiles.as_slice());
-        }
+        let profile = self.profile.take();
+        let profile = profile.as_ref().map(|name| name.as_str());
+        self.of_failure(failure, &Given { profile, ..*given });
     }
 
     /// Adds which layer of the profile can't be exported, and why, if any.
@@ -596,5 +583,13 @@ impl Notes for Hints {
 
     fn of_own_policy(&mut self, policy: &FaultyPolicy<'_>, failure: &Failure) {
         self.of_failure(failure, &Given::of_own(policy));
+    }
+}
+
+impl ProfileNotes for Hints {
+    fn of_profile(&mut self, profile: &str) {
+        if self.is_wanted {
+            self.profile = String::from_str(self.alloc, profile).ok();
+        }
     }
 }

@@ -57,7 +57,7 @@ fn tell_all_profiles<S: Sources, W: Write>(
         Some(options.policy),
         hints.are_wanted(),
     );
-    let told = tell_all_rights(rt.alloc(), options, &mut file, out);
+    let told = tell_all_rights(rt.alloc(), options, &mut file, out, hints);
     hints.of_input("policy", &file);
     hints.of_all_rights(options, &told, file.text());
     match told {
