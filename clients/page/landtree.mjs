@@ -236,7 +236,10 @@ function learn(tree, read, words, lesson) {
   if (told.status === ENDED) return fault(ENDED, `${lesson.history}:${told.text.replace(/^(?![0-9])/, ' ')}`);
   if (told.status !== WRONG.status) return told;
   const isMany = /^[0-9]+ rules, /.test(told.text);
-  return isMany ? fault(2, `${told.text.trim()}: --most 256, or --beneath DIR\nlandtree: command line\n`) : WRONG;
+  if (!isMany) return WRONG;
+  const many = told.text.trim();
+  const more = many.endsWith(' 256 may be') ? '' : '--most 256, or ';
+  return fault(2, `${many}: ${more}--beneath DIR\nlandtree: command line\n`);
 }
 
 // What the command answers, whose files `read` reads. Nothing is hinted, so `--terse` asks for nothing.

@@ -220,13 +220,16 @@ def judge_reasons(program, case, lines, outcomes):
             continue
         named = re.fullmatch("@([1-9][0-9]*) ([a-z]+)(?: (.*))?", line)
         client, word, call = named.groups() if named else ("0", line, None)
-        wanted, reason = world.takes(line, int(client), word, call)
+        wanted, unmet = world.takes(line, int(client), word, call)
         same(outcome, wanted, f"line {number}, {line!r:.99}")
-        reasons += [f"line {number}: {reason}"] if reason else []
+        reasons += [[f"line {number}: {it}" for it in unmet]] if unmet else []
     _, _, error = program.ran("schedule", "-", *case.words(), "--explain", text=case.text())
     hints = error.split("\n")[:-1]
     judge_blamed(lines, outcomes, [int(it[1]) for it in map(BLAMED.match, hints) if it])
-    same([it for it in hints if not BLAMED.match(it)], [f"  {cut(it)}" for it in [*reasons, *world.left()]], "the reasons")
+    told = [it for it in hints if not BLAMED.match(it)]
+    wanted = [[f"  {cut(it)}" for it in texts] for texts in [*reasons, *([it] for it in world.left())]]
+    same(len(told), len(wanted), "how many reasons there are")
+    same(told, [it if it in texts else texts[0] for it, texts in zip(told, wanted)], "the reasons")
 
 
 def judge_blamed(lines, outcomes, blamed):

@@ -14,10 +14,11 @@ UNDER_WAY = "its walk is under way, and a client has one at a time"
 
 
 class NotNow(Exception):
-    """What a client tries, and why it can't."""
+    """What a client tries, and why it can't. Of several reasons, any one may be named."""
 
-    def __init__(self, tried, why):
-        super().__init__(f"can't {tried}: {why}")
+    def __init__(self, tried, *whys):
+        super().__init__(tried, whys)
+        self.reasons = [f"can't {tried}: {why}" for why in whys]
 
 
 def text_of(names):
@@ -263,26 +264,29 @@ class World:
         if not walk.is_at_ends():
             self.must_go_on(walk, "commit")
         else:
+            whys = []
             for names, leg in zip(walk.paths, walk.branches or [walk.trunk]):
                 node = leg.here().entries.get(names[-1]) if names else None
                 other = self.marker(node, client) if node else None
                 if other:
-                    raise NotNow("commit", f"client {other}'s walk stands in {text_of(names)}, which the call names")
+                    whys += [f"client {other}'s walk stands in {text_of(names)}, which the call names"]
+            if whys:
+                raise NotNow("commit", *whys)
         return self.answer(client, walk.call)
 
     # ---- lines
 
     def takes(self, line, client, word, call):
-        """The outcome of a line, and why it is NotNow."""
+        """The outcome of a line, and each reason why it is NotNow."""
         words = cut(line).split(" ", 2)[-1]
         try:
             if word == "connect":
-                return self.connects(), None
+                return self.connects(), []
             if word == "do":
-                return self.does(client, call, words), None
-            return self.makes(client, word, call, words) if call else self.step(client, word), None
-        except NotNow as reason:
-            return "NotNow", f"client {client} {reason}"
+                return self.does(client, call, words), []
+            return self.makes(client, word, call, words) if call else self.step(client, word), []
+        except NotNow as unmet:
+            return "NotNow", [f"client {client} {it}" for it in unmet.reasons]
 
     def left(self):
         """What is said of the walks that are under way at the end."""

@@ -29,7 +29,7 @@ module _ (texts : Option (List ℕ) → Option (List ℕ)) (order : ExportOrder)
       → WritesExport texts order out out' (Err failure)
   begun CommandLine quiet broken = inl (quiet (λ e. absurd cc))
   begun (Policy fault) quiet broken = inl (quiet (λ e. absurd cc))
-  begun Opening quiet broken = inl (quiet (λ e. absurd cc))
+  begun (Opening refusal) quiet broken = inl (quiet (λ e. absurd cc))
   begun File quiet broken = inl (quiet (λ e. absurd cc))
   begun Output quiet broken =
       let told = broken refl in inr (refl, told.0, told.2, known told.0 told.1, told.3, told.4)

@@ -8,6 +8,7 @@ use Rattle.ll_program.specs.Sources.{named, text_in}
 use Rattle.ll_program.specs.declared.conclusion.Conclusion.{Conclusion}
 use Rattle.ll_program.specs.declared.failure.Failure.{Failure}
 use Rattle.ll_program.specs.declared.failure.Failure.TheVariants.{File}
+use Rattle.ll_program.specs.declared.program.Ran.{Ran}
 use Rattle.ll_commands.specs.Serving as serving
 use Rattle.ll_commands.specs.Serving.{EndsServe, IsDone}
 use Rattle.landtree.proofs.TextsTold.{ended}
@@ -29,37 +30,42 @@ clashed None named = absurd cc
 clashed (Some name) named = refl
 
 -- what a run leaves is something
-pub run_packed : (order : RunOrder) (r : Result Conclusion Failure)
+pub run_packed : (order : RunOrder) (r : Result Ran Failure)
     (left script script' out out' blank file file' : Option (List ℕ))
-    → IfOk r (λ end. (text : List ℕ) × IfSome left (λ told. text ≡ told)
-    × IsRun order text end script script' out out' blank file file')
-    → IfOk r (λ end. (text : List ℕ) × (s b f f' : Option (List ℕ)) × IfSome left (λ told. text ≡ told)
-    × IsRun order text end script s out out' b f f')
-run_packed order (Ok end) left script script' out out' blank file file' done =
+    → IfOk r (λ ran. (text : List ℕ) × IfSome left (λ told. text ≡ told)
+    × IsRun order text ran.conclusion script script' out out' blank file file')
+    → IfOk r (λ ran. (text : List ℕ) × (s b f f' : Option (List ℕ)) × IfSome left (λ told. text ≡ told)
+    × IsRun order text ran.conclusion script s out out' b f f')
+run_packed order (Ok ran) left script script' out out' blank file file' done =
     (done.0, script', blank, file, file', done.1, done.2)
 run_packed order (Err failure) left script script' out out' blank file file' done = tt
 
-pub failure_packed : (order : RunOrder) (r : Result Conclusion Failure)
+pub failure_packed : (order : RunOrder) (r : Result Ran Failure)
     (left script script' out out' : Option (List ℕ))
     → IfErr r (λ failure. (text : List ℕ) × IfSome left (λ told. text ≡ told)
     × MayFail order text script script' out out' failure)
     → IfErr r (λ failure. (text : List ℕ) × (s : Option (List ℕ)) × IfSome left (λ told. text ≡ told)
     × MayFail order text script s out out' failure)
-failure_packed order (Ok end) left script script' out out' fails = tt
+failure_packed order (Ok ran) left script script' out out' fails = tt
 failure_packed order (Err failure) left script script' out out' fails = (fails.0, script', fails.1, fails.2)
 
+-- how the program ends by it
+abbrev pub ended_by : Result Ran Failure → Result Conclusion Failure
+ended_by (Ok ran) = Ok ran.conclusion
+ended_by (Err failure) = Err failure
+
 module _ (texts : Option (List ℕ) → Option (List ℕ)) where
-  pub ends_run : (order : RunOrder) (r : Result Conclusion Failure) (left script out out' : Option (List ℕ))
+  pub ends_run : (order : RunOrder) (r : Result Ran Failure) (left script out out' : Option (List ℕ))
       → script ≡ texts (named order.script)
       → ((text : List ℕ) → IfSome left (λ told. text ≡ told)
       → IfSome (text_in texts order.policy) (λ told. text ≡ told))
-      → IfOk r (λ end. (text : List ℕ) × (s b f f' : Option (List ℕ)) × IfSome left (λ told. text ≡ told)
-      × IsRun order text end script s out out' b f f')
+      → IfOk r (λ ran. (text : List ℕ) × (s b f f' : Option (List ℕ)) × IfSome left (λ told. text ≡ told)
+      × IsRun order text ran.conclusion script s out out' b f f')
       → IfErr r (λ failure. (text : List ℕ) × (s : Option (List ℕ)) × IfSome left (λ told. text ≡ told)
       × MayFail order text script s out out' failure)
-      → EndsRun texts order out out' r
-  ends_run order (Ok end) left script out out' is known (text, s, b, f, f', told, ran) fails =
-      let run = subst (λ (x : Option (List ℕ)). IsRun order text end x s out out' b f f') is ran in
+      → EndsRun texts order out out' (ended_by r)
+  ends_run order (Ok ran) left script out out' is known (text, s, b, f, f', told, done) fails =
+      let run = subst (λ (x : Option (List ℕ)). IsRun order text ran.conclusion x s out out' b f f') is done in
       (text, s, b, f, f', known text told, run)
   ends_run order (Err failure) left script out out' is known done (text, s, told, why) =
       let may = subst (λ (x : Option (List ℕ)). MayFail order text x s out out' failure) is why in

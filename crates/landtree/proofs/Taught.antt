@@ -28,7 +28,7 @@ pub lacking : (order : LearnOrder) (text : List ℕ) (failure : Failure) → Lac
     → (out : Option (List ℕ)) → IsLearning order text out out (Err failure)
 lacking order text CommandLine lacks out = (inl lacks, refl)
 lacking order text (Policy fault) lacks out = absurd lacks
-lacking order text Opening lacks out = absurd lacks
+lacking order text (Opening refusal) lacks out = absurd lacks
 lacking order text File lacks out = refl
 lacking order text Output lacks out = absurd lacks
 lacking order text Socket lacks out = absurd lacks

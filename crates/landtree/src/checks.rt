@@ -282,10 +282,8 @@ pub fn check_options<S: Sources + Wait, W: Write>(
         hints.of_misfit(Misfit::of_check(options));
         return Err(Failure::CommandLine);
     }
-    match check_files(rt, sources, options, out, hints) {
-        Ok(checked) => Ok(Conclusion::Checked(checked)),
-        Err(failure) => Err(failure),
-    }
+    let checked = check_files(rt, sources, options, out, hints)?;
+    Ok(Conclusion::Checked(checked))
 }
 
 // Writes the text of the exported profile.

@@ -19,10 +19,10 @@ use crate::hints::Hints;
 use crate::misfits::Misfit;
 use ll_audit::Verdict;
 use ll_commands::{
-    Binds, Film, Log, conclude_schedule, film_by, schedule, schedule_drawn, serve, tell_why,
+    Binds, Drawn, Film, Log, conclude_schedule, film_by, schedule, schedule_drawn, serve, tell_why,
 };
 use ll_program::{
-    Clash, Conclusion, Device, Failure, Late, NewFile, Purpose, Question, RunOptions,
+    Clash, Conclusion, Device, Failure, Late, NewFile, Purpose, Question, Ran, RunOptions,
     ScheduleOptions, ServeOptions, Shown, Sources, WhyOptions, audit, named, run,
 };
 use ll_wire::Destination;
@@ -59,10 +59,10 @@ fn run_over<H: Wait, P: Read, R: Read, W: Write, F: Destination>(
     script: &mut R,
     out: &mut W,
     file: &mut F,
-) -> Result<Conclusion, Failure>
-    ensures done { IfOk result (λ end. (text : List ℕ) × (script' blank file file' : Option (List ℕ))
+) -> Result<Ran, Failure>
+    ensures done { IfOk result (λ ran. (text : List ℕ) × (script' blank file file' : Option (List ℕ))
         × IfSome (P.remaining policy.old) (λ told. text ≡ told)
-        × IsRun (order_in options.now) text end (R.remaining script.old) script'
+        × IsRun (order_in options.now) text ran.conclusion (R.remaining script.old) script'
         (W.contents out.old) (W.contents out.new) blank file file') }
     ensures failure { IfErr result (λ failure. (text : List ℕ) × (script' : Option (List ℕ))
         × IfSome (P.remaining policy.old) (λ told. text ≡ told)
@@ -104,7 +104,10 @@ fn run_script<S: Sources + Wait, W: Write>(
     hints.of_input("script", &script);
     hints.of_output(&file);
     hints.of_run(options, &ended, &policy, &script);
-    ended
+    match ended {
+        Ok(ran) => Ok(ran.conclusion),
+        Err(failure) => Err(failure),
+    }
 }
 
 // Runs `run`.
@@ -172,10 +175,8 @@ pub fn audit_file<S: Sources, W: Write>(
 ) -> Result<Conclusion, Failure>
     ensures { EndsAudit (S.texts sources.now (named file.now)) (W.contents out.old) (W.contents out.new) result }
 {
-    match judge_file(rt, sources, file, out, hints) {
-        Ok(verdict) => Ok(Conclusion::Judged(verdict)),
-        Err(failure) => Err(failure),
-    }
+    let verdict = judge_file(rt, sources, file, out, hints)?;
+    Ok(Conclusion::Judged(verdict))
 }
 
 // Adds hints on why steps of a schedule couldn't be made, and which walks are under way at its end.
@@ -219,11 +220,11 @@ fn perform_told<R: Read, W: Write>(
 }
 
 // Runs the schedule in this input, draws it into the file with this name, and adds hints.
-fn perform_drawn<R: Read, W: Write>(
-    rt: &HostRuntime,
+fn perform_drawn<'x, R: Read, W: Write>(
+    rt: &'x HostRuntime,
     options: &ScheduleOptions,
     input: &mut R,
-    path: &str,
+    path: &'x str,
     out: &mut W,
     hints: &mut Hints,
 ) -> Result<Conclusion, Failure>
@@ -234,13 +235,12 @@ fn perform_drawn<R: Read, W: Write>(
     let film = film_by(rt.alloc(), options, hints.are_wanted());
     match schedule_drawn(rt.alloc(), options, input, out, film, &mut picture) {
         Ok(drawn) => {
+            let Drawn { halt, film, saved } = drawn;
             hints.of_output(&picture);
-            hint_at_picture(rt.alloc(), &drawn.film, hints);
-            hint_at_steps(&drawn.film, hints);
-            match drawn.saved {
-                Ok(()) => conclude_schedule(rt.alloc(), options.file, drawn.halt),
-                Err(failure) => Err(failure),
-            }
+            hint_at_picture(rt.alloc(), &film, hints);
+            hint_at_steps(&film, hints);
+            saved?;
+            conclude_schedule(rt.alloc(), options.file, halt)
         }
         Err(failure) => Err(failure),
     }
@@ -389,7 +389,7 @@ fn serve_port<S: Sources + Threads + Wait + Sync, B: Binds, W: Write>(
     );
     hints.of_input("policy", &policy);
     hints.of_output(&file);
-    hints.of_serving(options, &ended, &policy);
+    hints.of_serving(options, &ended, log.refusal().as_ref(), &policy);
     ended
 }
 

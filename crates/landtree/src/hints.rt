@@ -9,10 +9,11 @@ use crate::misfits::Misfit;
 use crate::refusal::refused_text;
 use ll_audit::{Saved, Verdict};
 use ll_check::{Blame, DeniedTest, FaultyPolicy, LinesOf, Notes, ended, explain};
-use ll_commands::flaw_of;
+use ll_commands::{ProfileNotes, flaw_of};
 use ll_policy::{PlacedFault, Policy, policy_faults, read_document, toml_trouble};
 use ll_program::{Failure, Late, NewFile, Sources, body_of, is_silent};
 use ll_rights::Errno;
+use ll_session::Refusal;
 use ll_why::{WhyStyle, explain_entry, why_not};
 use ll_wire::{Header, escaped, read_command, read_schedule_line, shown, split_line, write_whole};
 use std::alloc::{AllocError, Global};
@@ -194,6 +195,8 @@ pub struct Hints {
     text: String,
     /// How many denied tests were explained.
     denials: usize,
+    /// The profile at which the tables of all have ended.
+    profile: Option<String>,
     ghost only_told: { All IsTold (string_bytes text) },
 }
 
@@ -205,6 +208,7 @@ impl Hints {
             is_wanted: false,
             text: String::new(alloc),
             denials: 0,
+            profile: None,
         }
     }
 
@@ -353,21 +357,19 @@ impl Hints {
         }
     }
 
-    // Adds which call is refused when a tree is opened with this policy, and its reply, if one is: one that creates the
-    // policy's nodes, or one of this profile.
-    fn of_refusal(&mut self, policy: &Policy, given: &Given<'_>, profile: Option<&str>) {
+    // Adds which call of this policy is refused, and its reply: one that creates a node, or one of this profile.
+    fn of_refused_call(&mut self, refusal: &Refusal, given: &Given<'_>, profile: Option<&str>) {
         if self.are_missing()
-            && let Ok(Some(refused)) = refused_text(self.alloc, policy, given, profile)
+            && let Some(policy) = policy_of(self.alloc, given.text)
+            && let Ok(refused) = refused_text(self.alloc, &policy, profile, refusal)
         {
             let _ = self.push_named(given.name, refused.as_str());
         }
     }
 
-    /// Adds which call is refused when a tree is opened with this policy, for the profile asked for, if one is.
-    pub fn of_opening(&mut self, given: &Given<'_>) {
-        if let Some(policy) = policy_of(self.alloc, given.text) {
-            self.of_refusal(&policy, given, given.profile);
-        }
+    /// Adds which call of this policy is refused, and its reply: one that creates a node, or one of its profile.
+    pub fn of_refusal(&mut self, refusal: &Refusal, given: &Given<'_>) {
+        self.of_refused_call(refusal, given, given.profile);
     }
 
     /// Adds why a command failed, if this policy is the reason.
@@ -378,7 +380,7 @@ impl Hints {
         match failure {
             Failure::Policy(_) => self.of_policy(given),
             Failure::CommandLine => self.of_profile(given),
-            Failure::Opening => self.of_opening(given),
+            Failure::Opening(refusal) => self.of_refusal(refusal, given),
             Failure::File | Failure::Output | Failure::Socket | Failure::NoMemory => {}
         }
     }
@@ -397,22 +399,16 @@ impl Hints {
         }
     }
 
-    // Adds which call of the first of these profiles that has one is refused.
-    fn of_refusals(&mut self, policy: &Policy, given: &Given<'_>, profiles: &[&str]) {
-        for profile in profiles {
-            self.of_refusal(policy, given, Some(profile));
-        }
-    }
-
     /// Adds why a command for all profiles failed, if this policy is the reason: it has a fault, or a call is refused.
     pub fn of_all_profiles(&mut self, failure: &Failure, given: &Given<'_>) {
-        self.of_failure(failure, given);
-        if let Failure::Opening = failure
-            && let Some(policy) = policy_of(self.alloc, given.text)
-            && let Ok(profiles) = policy.names(self.alloc)
+        let profile = self.profile.take();
+        if let Failure::Opening(refusal) = failure
+            && let Some(name) = &profile
         {
-            self.of_refusals(&policy, given, profiles.as_slice());
+            self.of_refused_call(refusal, given, Some(name.as_str()));
+            return;
         }
+        self.of_failure(failure, given);
     }
 
     /// Adds which layer of the profile can't be exported, and why, if any.
@@ -438,8 +434,7 @@ impl Hints {
         }
     }
 
-    // Adds where in the line with this number, from 1, something else was expected, and what. The line spells no
-    // command.
+    // Adds where in this line, which spells no command, something else was expected, and what.
     fn of_command(&mut self, of: LinesOf, name: &str, text: &[u8], number: usize) {
         let Ok(
             Some(
@@ -464,8 +459,7 @@ impl Hints {
         }
     }
 
-    /// Adds, for a command given as a word of the command line, where something else was expected, and what, if it
-    /// spells none.
+    /// Adds where in this word, if it spells no command, something else was expected, and what.
     pub fn of_word(&mut self, command: &str) {
         let Ok(line) = format!(in self.alloc; "{command}\n") else {
             return;
@@ -475,16 +469,14 @@ impl Hints {
         }
     }
 
-    /// Adds where in the script's line with this number, from 1, something else was expected, and what. The line spells
-    /// no command.
+    /// Adds where in this line of a script, which spells no command, something else was expected, and what.
     pub fn of_bad_line(&mut self, of: LinesOf, script: &str, text: &[u8], number: u64) {
         if self.are_missing() {
             self.of_command(of, script, text, number as usize);
         }
     }
 
-    /// Adds where in the schedule's line with this number, from 1, something else was expected, and what. The line
-    /// spells no step.
+    /// Adds where in this line of a schedule, which spells no step, something else was expected, and what.
     pub fn of_bad_step(&mut self, file: &str, text: &[u8], number: u64) {
         if self.is_wanted {
             self.of_command(LinesOf::Schedule, file, text, number as usize);
@@ -596,5 +588,13 @@ impl Notes for Hints {
 
     fn of_own_policy(&mut self, policy: &FaultyPolicy<'_>, failure: &Failure) {
         self.of_failure(failure, &Given::of_own(policy));
+    }
+}
+
+impl ProfileNotes for Hints {
+    fn of_profile(&mut self, profile: &str) {
+        if self.is_wanted {
+            self.profile = String::from_str(self.alloc, profile).ok();
+        }
     }
 }

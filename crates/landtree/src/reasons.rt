@@ -5,17 +5,24 @@ use crate::hints::Hints;
 use ll_check::LinesOf;
 use ll_program::{
     CheckOptions, CommandQuestion, Conclusion, ExportOptions, Failure, Late, LearnOptions,
-    OldPolicy, Question, RightsOptions, RunOptions, ScheduleOptions, ServeOptions, Sources,
+    OldPolicy, Question, Ran, RightsOptions, RunOptions, ScheduleOptions, ServeOptions, Sources,
     WhyOptions,
 };
-use ll_rights::limits::{HISTORY_ENTRIES, TREE_NODES};
+use ll_session::Refusal;
 
 impl Hints {
+    // Adds how the opening with this policy was refused, if it was.
+    fn of_opening(&mut self, refusal: Option<&Refusal>, given: &Given<'_>) {
+        if let Some(refusal) = refusal {
+            self.of_refusal(refusal, given);
+        }
+    }
+
     /// Adds hints for `run`: lines of the script spell no command, or the policy is the reason.
     pub fn of_run<S: Sources>(
         &mut self,
         options: &RunOptions,
-        ended: &Result<Conclusion, Failure>,
+        ended: &Result<Ran, Failure>,
         policy: &Late<'_, S>,
         script: &Late<'_, S>,
     ) {
@@ -24,34 +31,24 @@ impl Hints {
         } else {
             LinesOf::Script
         };
-        if let Some(text) = script.text() {
-            match ended {
-                Ok(Conclusion::Stopped(stopped)) => {
+        if let Some(text) = script.text()
+            && let Ok(Ran { conclusion, .. }) = ended
+        {
+            match conclusion {
+                Conclusion::Stopped(stopped) => {
                     if let Some(line) = stopped.bad_line {
                         self.of_bad_line(of, options.script, text, line);
                     }
                 }
-                Ok(_) => self.of_bad_lines(of, options.script, text),
-                Err(_) => {}
+                _ => self.of_bad_lines(of, options.script, text),
             }
         }
-        let (nodes, history) = (options.nodes, options.history);
-        let given = Given::new(
-            options.policy,
-            policy.text(),
-            options.profile,
-            nodes,
-            history,
-        );
-        let Some(given) = given else {
+        let Some(given) = Given::new(options.policy, policy.text(), options.profile) else {
             return;
         };
         match ended {
             Err(failure) => self.of_failure(failure, &given),
-            // The script wasn't read: a call of the opening was refused, which is the only reply. (A script with
-            // comments is read first.)
-            Ok(_) if !script.is_open() || options.comments => self.of_opening(&given),
-            Ok(_) => {}
+            Ok(ran) => self.of_opening(ran.refusal.as_ref(), &given),
         }
     }
 
@@ -76,25 +73,19 @@ impl Hints {
         }
     }
 
-    /// Adds hints for `serve`: the policy is the reason. The calls of a connection's profile are tried with a history
-    /// that the others haven't filled.
+    /// Adds hints for `serve`: the policy is the reason. A call of a connection's profile may be refused like this.
     pub fn of_serving<S: Sources>(
         &mut self,
         options: &ServeOptions,
         ended: &Result<(), Failure>,
+        refusal: Option<&Refusal>,
         policy: &Late<'_, S>,
     ) {
-        let history = match ended {
-            Ok(()) => HISTORY_ENTRIES,
-            Err(_) => options.history,
-        };
-        let (text, nodes) = (policy.text(), options.nodes);
-        let given = Given::new(options.policy, text, options.profile, nodes, history);
-        let Some(given) = given else {
+        let Some(given) = Given::new(options.policy, policy.text(), options.profile) else {
             return;
         };
         match ended {
-            Ok(()) => self.of_opening(&given),
+            Ok(()) => self.of_opening(refusal, &given),
             Err(failure) => self.of_failure(failure, &given),
         }
     }
@@ -107,10 +98,8 @@ impl Hints {
         ended: &Result<(), Failure>,
         text: Option<&[u8]>,
     ) {
-        let (policy, profile) = (Some(options.policy), Some(profile));
-        let given = Given::new(policy, text, profile, options.nodes, HISTORY_ENTRIES);
         if let Err(failure) = ended
-            && let Some(given) = given
+            && let Some(given) = Given::new(Some(options.policy), text, Some(profile))
         {
             self.of_failure(failure, &given);
         }
@@ -123,8 +112,7 @@ impl Hints {
         ended: &Result<(), Failure>,
         text: Option<&'x [u8]>,
     ) {
-        let (policy, nodes) = (Some(options.policy), options.nodes);
-        let Some(given) = Given::new(policy, text, None, nodes, HISTORY_ENTRIES) else {
+        let Some(given) = Given::new(Some(options.policy), text, None) else {
             return;
         };
         match ended {
@@ -134,20 +122,27 @@ impl Hints {
     }
 
     /// Adds hints for `rights` of two policies: one of them is the reason, the old one first.
-    pub fn of_change(
+    pub fn of_change<'x>(
         &mut self,
-        options: &RightsOptions,
-        compared: &OldPolicy,
+        options: &RightsOptions<'x>,
+        compared: &OldPolicy<'x>,
         ended: &Result<Conclusion, Failure>,
-        old_text: Option<&[u8]>,
-        text: Option<&[u8]>,
+        old_text: Option<&'x [u8]>,
+        text: Option<&'x [u8]>,
     ) {
         let Err(failure) = ended else {
             return;
         };
-        let (nodes, profile) = (options.nodes, Some(compared.profile));
-        for (name, text) in [(compared.old, old_text), (options.policy, text)] {
-            if let Some(given) = Given::new(Some(name), text, profile, nodes, HISTORY_ENTRIES) {
+        let profile = Some(compared.profile);
+        let old = Given::new(Some(compared.old), old_text, profile);
+        let new = Given::new(Some(options.policy), text, profile);
+        // Both are opened, the old one first, and the new one is read after that.
+        let given = match failure {
+            Failure::Opening(_) if new.is_some() => [new, None],
+            _ => [old, new],
+        };
+        for policy in given {
+            if let Some(given) = policy {
                 self.of_failure(failure, &given);
             }
         }
@@ -155,9 +150,7 @@ impl Hints {
 
     /// Adds hints for `check`: the policy is the reason.
     pub fn of_check(&mut self, options: &CheckOptions, failure: &Failure, text: &[u8]) {
-        let (policy, profile) = (options.policy, options.profile);
-        let given = Given::new(policy, Some(text), profile, options.nodes, HISTORY_ENTRIES);
-        if let Some(given) = given {
+        if let Some(given) = Given::new(options.policy, Some(text), options.profile) {
             self.of_failure(failure, &given);
         }
     }
@@ -165,9 +158,7 @@ impl Hints {
     /// Adds hints for `learn` from files of checks: the policy is the reason. No history is given with files, and
     /// nobody has a profile in their trees.
     pub fn of_lessons(&mut self, options: &LearnOptions, failure: &Failure, text: &[u8]) {
-        let (policy, profile) = (options.policy, options.history);
-        let given = Given::new(policy, Some(text), profile, options.nodes, HISTORY_ENTRIES);
-        if let Some(given) = given {
+        if let Some(given) = Given::new(options.policy, Some(text), options.history) {
             self.of_failure(failure, &given);
         }
     }
@@ -175,7 +166,7 @@ impl Hints {
     /// Adds hints for `export`: the policy is the reason, or a layer that can't be exported.
     pub fn of_export(&mut self, options: &ExportOptions, failure: &Failure, text: Option<&[u8]>) {
         let (policy, profile) = (Some(options.policy), Some(options.profile));
-        let Some(given) = Given::new(policy, text, profile, TREE_NODES, HISTORY_ENTRIES) else {
+        let Some(given) = Given::new(policy, text, profile) else {
             return;
         };
         self.of_failure(failure, &given);
@@ -198,8 +189,7 @@ impl Hints {
             }
             self.of_word(asked.command);
         }
-        let (nodes, history) = (options.nodes, HISTORY_ENTRIES);
-        if let Some(given) = Given::new(options.policy, text, options.profile, nodes, history) {
+        if let Some(given) = Given::new(options.policy, text, options.profile) {
             self.of_failure(failure, &given);
         }
     }

@@ -1,89 +1,11 @@
-//! The refused call of a policy's opening.
+//! The refused call of a policy's opening, as a hint.
 
-ghost use Rattle.std.specs.Prelude.{◌≡◌, ◌<◌, ◌≤◌, ◌+◌, ◌-◌, ◌^◌, true, false, IfOk};
-ghost use Rattle.ll_rights.specs.Map.{has};
-ghost use Rattle.ll_seq.specs.History.{is_connect};
-ghost use Rattle.ll_session.specs.Session.{AreOthers};
-
-use crate::given::Given;
-use ll_check::{ProfileProgress, answered_text, is_refused, profile_call_text};
-use ll_plain::Plain;
+use ll_check::{ProfileProgress, answered_text, profile_call_text};
 use ll_policy::Policy;
 use ll_rights::{Abi, Access, Errno, Kind};
-use ll_seq::{Call, Reply, Rules};
+use ll_seq::{Call, Reply};
+use ll_session::{Opener, Refusal};
 use std::alloc::{AllocError, Global};
-
-/// A client that comes before all others.
-#[derive(Clone, Copy)]
-enum Comer<'a> {
-    /// It creates the policy's nodes.
-    Loader,
-    /// It makes the calls of the profile with this name.
-    Profile(&'a str),
-}
-
-/// Where a client stops: its calls up to the refused one (none if its connect is refused), and the reply.
-#[derive(Drop)]
-struct Stop<'a> {
-    calls: &'a [Call],
-    reply: Reply,
-}
-
-// Returns the reply to the client's call in a tree whose history has this much room.
-fn answer(tree: &mut Plain, room: &mut usize, client: u64, call: &Call) -> Reply
-    requires caller { has tree.old.clients client ≡ true }
-    requires call { is_connect call.now ≡ false }
-    requires next { tree.old.next + room.old < 2 ^ 64 - 1 }
-    ensures there { has tree.new.clients client ≡ true }
-    ensures next { tree.new.next + room.new ≤ tree.old.next + room.old }
-{
-    if *room == 0 {
-        return Reply::Refused(Errno::HistoryFull);
-    }
-    *room -= 1;
-    let fresh = tree.free_number();
-    tree.apply(client, call, fresh)
-}
-
-// Returns the number of a client that connects. Errors: the reply that refuses it.
-fn connect(tree: &mut Plain, room: &mut usize) -> Result<u64, Reply>
-    requires next { tree.old.next + room.old < 2 ^ 64 - 1 }
-    ensures there { IfOk result (λ client. has tree.new.clients client ≡ true) }
-    ensures next { tree.new.next + room.new ≤ tree.old.next + room.old }
-{
-    if *room == 0 {
-        return Err(Reply::Refused(Errno::HistoryFull));
-    }
-    *room -= 1;
-    let client = tree.free_number();
-    let reply = tree.apply(client, &Call::Connect, client);
-    match tree.client(client) {
-        Some(_) => Ok(client),
-        None => Err(reply),
-    }
-}
-
-// Adds a client that makes these calls in turn. Returns where it stops, if one is refused.
-fn come<'a>(tree: &mut Plain, room: &mut usize, calls: &'a [Call]) -> Option<Stop<'a>>
-    requires calls { AreOthers calls.now }
-    requires next { tree.old.next + room.old < 2 ^ 64 - 1 }
-    ensures next { tree.new.next + room.new ≤ tree.old.next + room.old }
-{
-    let client = match connect(tree, room) {
-        Ok(client) => client,
-        Err(reply) => return Some(Stop { calls: &[], reply }),
-    };
-    let mut made: usize = 0;
-    for call in calls {
-        let reply = answer(tree, room, client, call);
-        made = made.saturating_add(1);
-        if is_refused(&reply) {
-            let calls = calls.get(..made).unwrap_or(&[]);
-            return Some(Stop { calls, reply });
-        }
-    }
-    None
-}
 
 // Returns the text on a profile's call, the last of these: which rule of which layer it is, the call and its reply.
 fn profile_text(
@@ -101,20 +23,52 @@ fn profile_text(
     format!(in alloc; "profile {name}, {told}")
 }
 
-// Returns the text on the refused call: where the policy asks for it, the call and its reply.
-fn call_text(alloc: Global, comer: Comer<'_>, stop: &Stop<'_>) -> Result<String, AllocError> {
-    let (calls, reply) = (stop.calls, &stop.reply);
-    let Some(call) = calls.last() else {
-        return answered_text(alloc, &Call::Connect, reply);
-    };
-    match comer {
-        Comer::Loader => {
-            let makes = calls.iter().filter(|call| matches!(call, Call::Make(_, _)));
-            let node = makes.count();
-            let answered = answered_text(alloc, call, reply)?;
-            format!(in alloc; "node {node}: {answered}")
+/// A refused call as the policy asks for it.
+#[derive(Drop)]
+struct RefusedCall<'a> {
+    opener: Opener,
+    /// The calls of the opener, up to and with this one; none if its connect is refused.
+    calls: &'a [Call],
+    reply: &'a Reply,
+    /// The profile's name, for its client.
+    profile: &'a str,
+}
+
+impl RefusedCall<'_> {
+    // Returns the text on it: where the policy asks for it, the call and its reply.
+    fn place_text(&self, alloc: Global) -> Result<String, AllocError> {
+        let Some(call) = self.calls.last() else {
+            return answered_text(alloc, &Call::Connect, self.reply);
+        };
+        match self.opener {
+            Opener::Loader => {
+                let makes = self
+                    .calls
+                    .iter()
+                    .filter(|call| matches!(call, Call::Make(_, _)));
+                let node = makes.count();
+                let answered = answered_text(alloc, call, self.reply)?;
+                format!(in alloc; "node {node}: {answered}")
+            }
+            Opener::Profile => profile_text(alloc, self.profile, self.calls, call, self.reply),
         }
-        Comer::Profile(name) => profile_text(alloc, name, calls, call, reply),
+    }
+
+    // Returns that text, and which of several causes the refusal has; for a full history the option that makes it
+    // longer. Errors: memory ran out, now or for the call.
+    fn text(&self, alloc: Global, ground: &Ground<'_>) -> Result<String, AllocError> {
+        let told = self.place_text(alloc)?;
+        match self.reply {
+            Reply::Refused(Errno::NoMemory) => Err(AllocError),
+            Reply::Refused(Errno::HistoryFull) => {
+                format!(in alloc; "{told}--history tells how many entries there may be")
+            }
+            Reply::Refused(errno) => match cause_of(alloc, ground, self.calls, *errno)? {
+                Some(cause) => format!(in alloc; "{told}{cause}"),
+                None => Ok(told),
+            },
+            _ => Ok(told),
+        }
     }
 }
 
@@ -213,35 +167,12 @@ fn cause_of(
     }
 }
 
-// Returns that text, and which of several causes the refusal has; for a full history the option that makes it longer.
-fn stop_text(
-    alloc: Global,
-    ground: &Ground<'_>,
-    comer: Comer<'_>,
-    stop: &Stop<'_>,
-) -> Result<String, AllocError> {
-    let told = call_text(alloc, comer, stop)?;
-    match stop.reply {
-        Reply::Refused(Errno::NoMemory) => Err(AllocError),
-        Reply::Refused(Errno::HistoryFull) => {
-            format!(in alloc; "{told}--history tells how many entries there may be")
-        }
-        Reply::Refused(errno) => match cause_of(alloc, ground, stop.calls, errno)? {
-            Some(cause) => format!(in alloc; "{told}{cause}"),
-            None => Ok(told),
-        },
-        _ => Ok(told),
-    }
-}
-
-// Returns the calls that a client of the profile makes first, or none without a profile.
+// Returns the calls of the profile asked for, or none without one.
 fn profile_calls(
     alloc: Global,
     policy: &Policy,
     profile: Option<&str>,
-) -> Result<Vec<Call>, AllocError>
-    ensures { IfOk result (λ calls. AreOthers calls.items) }
-{
+) -> Result<Vec<Call>, AllocError> {
     match profile {
         Some(name) => match policy.profile(alloc, name)? {
             Some(calls) => Ok(calls),
@@ -251,69 +182,32 @@ fn profile_calls(
     }
 }
 
-// Returns the text on where a client stops.
-fn told_stop(
-    alloc: Global,
-    ground: &Ground<'_>,
-    comer: Comer<'_>,
-    stop: Stop<'_>,
-) -> Result<Option<String>, AllocError> {
-    let told = stop_text(alloc, ground, comer, &stop);
-    drop(stop);
-    Ok(Some(told?))
-}
-
-// Returns the text on where the loader stops in a new tree, or else the client that makes these calls.
-fn first_text(
-    alloc: Global,
-    ground: &Ground<'_>,
-    given: &Given<'_>,
-    comer: Comer<'_>,
-    calls: &[Call],
-) -> Result<Option<String>, AllocError>
-    requires nodes { AreOthers ground.now.nodes.now }
-    requires calls { AreOthers calls.now }
-{
-    let rules = Rules {
-        abi: ground.abi,
-        copies: true,
-    };
-    let mut tree = Plain::new(alloc, rules, given.nodes)?;
-    let mut room = given.history;
-    let told = match come(&mut tree, &mut room, ground.nodes) {
-        Some(stop) => told_stop(alloc, ground, Comer::Loader, stop),
-        None => match come(&mut tree, &mut room, calls) {
-            Some(stop) => told_stop(alloc, ground, comer, stop),
-            None => Ok(None),
-        },
-    };
-    drop(tree);
-    told
-}
-
-/// Returns the lines on the first call that is refused when a tree is opened with this policy: where the policy asks
-/// for it, the call, and its reply. None if no call is refused.
-pub(crate) fn refused_text(
+/// Returns the lines on the call that this policy, or this profile of it, asks for and that is refused like this: where
+/// it is asked for, the call, and its reply.
+pub(crate) fn refused_text<'x>(
     alloc: Global,
     policy: &Policy,
-    given: &Given<'_>,
-    profile: Option<&str>,
-) -> Result<Option<String>, AllocError> {
+    profile: Option<&'x str>,
+    refusal: &'x Refusal,
+) -> Result<String, AllocError> {
     let nodes = policy.opening(alloc)?;
-    let calls = match profile_calls(alloc, policy, profile) {
-        Ok(calls) => calls,
-        Err(error) => {
-            drop(nodes);
-            return Err(error);
-        }
+    let layers = match refusal.opener {
+        Opener::Loader => Vec::new(alloc),
+        Opener::Profile => profile_calls(alloc, policy, profile)?,
+    };
+    let calls = match refusal.opener {
+        Opener::Loader => nodes.as_slice(),
+        Opener::Profile => layers.as_slice(),
+    };
+    let refused = RefusedCall {
+        opener: refusal.opener,
+        calls: calls.get(..refusal.calls).unwrap_or(&[]),
+        reply: &refusal.reply,
+        profile: profile.unwrap_or(""),
     };
     let ground = Ground {
         abi: policy.abi(),
         nodes: nodes.as_slice(),
     };
-    let comer = Comer::Profile(profile.unwrap_or(""));
-    let told = first_text(alloc, &ground, given, comer, calls.as_slice());
-    drop(calls);
-    drop(nodes);
-    told
+    refused.text(alloc, &ground)
 }

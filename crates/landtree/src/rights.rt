@@ -57,7 +57,7 @@ fn tell_all_profiles<S: Sources, W: Write>(
         Some(options.policy),
         hints.are_wanted(),
     );
-    let told = tell_all_rights(rt.alloc(), options, &mut file, out);
+    let told = tell_all_rights(rt.alloc(), options, &mut file, out, hints);
     hints.of_input("policy", &file);
     hints.of_all_rights(options, &told, file.text());
     match told {
@@ -67,11 +67,11 @@ fn tell_all_profiles<S: Sources, W: Write>(
 }
 
 // Writes what a policy grants a profile more and less than an old one.
-fn tell_change<S: Sources, W: Write>(
-    rt: &HostRuntime,
-    sources: &S,
-    options: &RightsOptions,
-    compared: &OldPolicy,
+fn tell_change<'x, S: Sources, W: Write>(
+    rt: &'x HostRuntime,
+    sources: &'x S,
+    options: &RightsOptions<'x>,
+    compared: &OldPolicy<'x>,
     out: &mut W,
     hints: &mut Hints,
 ) -> Result<Conclusion, Failure>
@@ -89,10 +89,10 @@ fn tell_change<S: Sources, W: Write>(
 }
 
 // Writes what the words ask for.
-fn tell_scope<S: Sources, W: Write>(
-    rt: &HostRuntime,
-    sources: &S,
-    options: &RightsOptions,
+fn tell_scope<'x, S: Sources, W: Write>(
+    rt: &'x HostRuntime,
+    sources: &'x S,
+    options: &RightsOptions<'x>,
     out: &mut W,
     hints: &mut Hints,
 ) -> Result<Conclusion, Failure>

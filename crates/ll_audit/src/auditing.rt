@@ -135,10 +135,7 @@ pub fn run_audit_over<E: Ends, P: Progress>(
     ensures fault { IfErr result (λ fault. BlamesAudit fault (E.devices ends.new)) }
     ensures same { E.names ends.new ≡ E.names ends.old }
 {
-    let bytes = match read_file(alloc, ends) {
-        Ok(bytes) => bytes,
-        Err(failure) => return Err(failure),
-    };
+    let bytes = read_file(alloc, ends)?;
     let Ok(verdict) = judge(alloc, bytes.as_slice(), progress) else {
         return Err(FileAuditFault::NoMemory);
     };

@@ -64,13 +64,9 @@ fn write_block<E: Ends>(text: &mut String, ends: &mut E) -> Result<(), Broken>
     if text.len() < BLOCK {
         return Ok(());
     }
-    match write_out(ends, text.as_str().as_bytes()) {
-        Ok(()) => {
-            text.clear();
-            Ok(())
-        }
-        Err(broken) => Err(broken),
-    }
+    write_out(ends, text.as_str().as_bytes())?;
+    text.clear();
+    Ok(())
 }
 
 /// Writes a history file. Doesn't use the device again after it failed. Errors: the device failed, or memory ran out; a

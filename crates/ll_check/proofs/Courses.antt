@@ -24,6 +24,7 @@ use Rattle.ll_session.specs.declared.calls_run.CallReplies.{CallReplies}
 use Rattle.ll_session.specs.declared.calls_run.CallReplies.TheVariants.{Answered, Refused}
 use Rattle.ll_session.specs.declared.fault.RunFault.{RunFault}
 use Rattle.ll_session.specs.declared.fault.RunFault.TheVariants as run
+use Rattle.ll_session.specs.declared.refusal.Refusal.{Refusal}
 use Rattle.ll_session.specs.declared.setup.Setup.{Setup}
 use Rattle.ll_program.specs.Options.{LearnOrder, lesson_tree}
 use Rattle.ll_program.specs.Policy.{Lacks}
@@ -118,9 +119,9 @@ module _ (lessons : List Test) (made : CallReplies) (replies : Vec Reply Global)
   unmet_so unmet = subst (λ (m : CallReplies). AreUnmet lessons m) (sym is)
       (subst (λ (x : List Reply). HasUnmet lessons x) same unmet)
 
-pub refused_so : (lessons : List Test) (made : CallReplies) (reply : Reply) → made ≡ Refused reply
+pub refused_so : (lessons : List Test) (made : CallReplies) (refusal : Refusal) → made ≡ Refused refusal
     → AreUnmet lessons made
-refused_so lessons made reply is = subst (λ (m : CallReplies). AreUnmet lessons m) (sym is) tt
+refused_so lessons made refusal is = subst (λ (m : CallReplies). AreUnmet lessons m) (sym is) tt
 
 -- each lesson has its reply
 pub lessons_replied : (setup : Setup) (tests : List (Bor Test)) (made : CallReplies) (entries : List Entry)
@@ -161,9 +162,10 @@ module _ (order : LearnOrder) (policy : List ℕ) where
   -- a tree isn't opened
   pub not_made : (calls : List Call) (tests : ℕ) (setup : Setup) (fault : RunFault) (failure : Failure)
       → IsTree order policy calls tests setup → MayEnd setup fault
-      → ((failure ≡ Opening) × (fault ≡ run.Opening)) ⊎ (failure ≡ NoMemory) → FailsToMake order policy failure
+      → ((refusal : Refusal) × (failure ≡ Opening refusal) × (fault ≡ run.Opening refusal)) ⊎ (failure ≡ NoMemory)
+      → FailsToMake order policy failure
   not_made calls tests setup fault failure tree ends (inl opening) =
-      inr (inl (opening.0, calls, tests, setup, tree, subst (MayEnd setup) opening.1 ends))
+      inr (inl (opening.0, opening.1, calls, tests, setup, tree, subst (MayEnd setup) opening.2 ends))
   not_made calls tests setup fault failure tree ends (inr wanting) = inr (inr wanting)
 
   -- lessons that are met are taught
@@ -182,7 +184,7 @@ module _ (order : LearnOrder) (policy : List ℕ) where
         makes = makes;
         each = met;
       })
-  taught lessons tests calls (Refused reply) setup entries e none tree makes met = absurd met
+  taught lessons tests calls (Refused refusal) setup entries e none tree makes met = absurd met
 
   -- those that aren't are not
   pub not_met : (lessons : Tests) (tests : List (Bor Test)) (calls : List Call) (made : CallReplies) (setup : Setup)

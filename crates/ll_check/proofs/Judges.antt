@@ -100,7 +100,7 @@ pub has_replies : (setup : Setup) (tests : List Test) (made : CallReplies) (entr
 has_replies setup tests (Answered replies) entries h =
     sym (calls_count tests)
     ∙ replied_all h.0 h.1 (map (λ (test : Test). test.call) tests) replies.items h.3
-has_replies setup tests (Refused reply) entries h = tt
+has_replies setup tests (Refused refusal) entries h = tt
 
 -- ---- parts of a loop
 

@@ -13,6 +13,7 @@ use Rattle.ll_learn.specs.declared.profile.LearnedProfile.{LearnedProfile}
 use Rattle.ll_learn.specs.Profile.{calls_of}
 use Rattle.ll_session.specs.declared.calls_run.CallReplies.{CallReplies}
 use Rattle.ll_session.specs.declared.calls_run.CallReplies.TheVariants.{Answered, Refused}
+use Rattle.ll_session.specs.declared.refusal.Refusal.{Refusal}
 use Rattle.ll_session.specs.declared.setup.Setup.{Setup}
 use Rattle.ll_program.specs.Options.{LearnOrder}
 use Rattle.ll_check.specs.declared.judging.Style.{Style}
@@ -88,10 +89,10 @@ module _ (order : LearnOrder) (policy : List ℕ) (profile : LearnedProfile) whe
         ),
         ap (λ (n : ℕ). eqb n 0) checked.1.4 ∙ none_fails checked.1.0,
       )
-  file_tried file tests calls style setup name section (Refused reply) entries before after tally e same tree
+  file_tried file tests calls style setup name section (Refused refusal) entries before after tally e same tree
       checked enough = (
-        Err reply,
-        subst (λ (x : List Test). AreRun order policy (calls_of profile) x (Refused reply)) e (record {
+        Err refusal,
+        subst (λ (x : List Test). AreRun order policy (calls_of profile) x (Refused refusal)) e (record {
           setup = setup;
           entries = entries;
           tree = subst (λ (x : List Call). IsTree order policy x (length tests) setup) same tree;
@@ -102,7 +103,7 @@ module _ (order : LearnOrder) (policy : List ℕ) (profile : LearnedProfile) whe
       )
 
   -- a file whose trial passes passes
-  trial_passes : (file : Tests) (trial : Result (List Judged) Reply) → IsTried order policy profile file trial
+  trial_passes : (file : Tests) (trial : Result (List Judged) Refusal) → IsTried order policy profile file trial
       → is_passed trial ≡ true → PassesUnder order policy profile file
   trial_passes file (Ok verdicts) tried pass =
       let run = tried.1 in
@@ -120,7 +121,7 @@ module _ (order : LearnOrder) (policy : List ℕ) (profile : LearnedProfile) whe
               (each_passes verdicts judged.each pass));
         },
       )
-  trial_passes file (Err reply) tried pass = absurd (false≢true pass)
+  trial_passes file (Err refusal) tried pass = absurd (false≢true pass)
 
   -- ---- all files
 
@@ -138,7 +139,7 @@ module _ (order : LearnOrder) (policy : List ℕ) (profile : LearnedProfile) whe
         ∙ sym (list_all-append is_passed so.trials (trial.0 ∷ []));
   }
 
-  all_pass_under : (files : List Tests) (trials : List (Result (List Judged) Reply))
+  all_pass_under : (files : List Tests) (trials : List (Result (List Judged) Refusal))
       → AllZip (IsTried order policy profile) files trials → list_all is_passed trials ≡ true
       → AllByRecursion (PassesUnder order policy profile) files
   all_pass_under [] [] tried pass = tt

@@ -29,6 +29,7 @@ use Rattle.ll_session.specs.Run.{MayEnd}
 use Rattle.ll_session.specs.declared.calls_run.CallReplies.{CallReplies}
 use Rattle.ll_session.specs.declared.calls_run.CallReplies.TheVariants.{Answered, Refused}
 use Rattle.ll_session.specs.declared.fault.RunFault.TheVariants as run
+use Rattle.ll_session.specs.declared.refusal.Refusal.{Refusal}
 use Rattle.ll_session.specs.declared.setup.Setup.{Setup}
 use Rattle.ll_program.specs.Learn.{IsWithheld, most_rules, profile_name}
 use Rattle.ll_program.specs.Options.{LearnOrder, lesson_tree}
@@ -150,7 +151,7 @@ is_no_memory other = false
 -- memory ran out for a call
 abbrev pub ran_out : CallReplies → Bool
 ran_out (Answered replies) = list_any is_no_memory replies.items
-ran_out (Refused reply) = is_no_memory reply
+ran_out (Refused refusal) = is_no_memory refusal.reply
 
 -- In a tree with these calls of the first client, the tests get these replies, or the tree isn't opened. Memory doesn't
 -- run out
@@ -175,7 +176,7 @@ pub record HasUnmet (lessons : List Test) (replies : List Reply) : Type 0 where
 -- there is one, or the tree isn't opened
 abbrev pub AreUnmet : List Test → CallReplies → Type 0
 AreUnmet lessons (Answered replies) = HasUnmet lessons replies.items
-AreUnmet lessons (Refused reply) = ⊤
+AreUnmet lessons (Refused refusal) = ⊤
 
 -- with nobody under a layer, a file's lessons aren't answered as they say
 pub record IsUnmet (order : LearnOrder) (policy : List ℕ) (lessons : Tests) : Type 0 where
@@ -203,22 +204,22 @@ TeachNothing order policy lessons =
     × IsUnlearned (opened (header_of c.blank)) c.histories c.aim why)
 
 -- A file's tests, made with the profile's layer, get these verdicts; or the tree isn't opened
-abbrev pub IsTried : LearnOrder → (policy : List ℕ) → LearnedProfile → Tests → Result (List Judged) Reply → Type 0
+abbrev pub IsTried : LearnOrder → (policy : List ℕ) → LearnedProfile → Tests → Result (List Judged) Refusal → Type 0
 IsTried order policy profile file (Ok verdicts) = (replies : Vec Reply Global)
     × AreRun order policy (calls_of profile) file.tests (Answered replies)
     × AreJudged file.tests replies.items verdicts
-IsTried order policy profile file (Err reply) =
-    AreRun order policy (calls_of profile) file.tests (Refused reply)
+IsTried order policy profile file (Err refusal) =
+    AreRun order policy (calls_of profile) file.tests (Refused refusal)
 
-abbrev pub is_passed : Result (List Judged) Reply → Bool
+abbrev pub is_passed : Result (List Judged) Refusal → Bool
 is_passed (Ok verdicts) = list_all (λ it. it.passes) verdicts
-is_passed (Err reply) = false
+is_passed (Err refusal) = false
 
 -- The files are tried like this, each in a tree of its own. The tests whose verdicts don't pass are those that are
 -- missed. passes: whether none is
 pub record AreTried (order : LearnOrder) (policy : List ℕ) (profile : LearnedProfile) (files : List Tests)
     (passes : Bool) : Type 0 where
-  pub trials : List (Result (List Judged) Reply)
+  pub trials : List (Result (List Judged) Refusal)
   pub tried : AllZip (IsTried order policy profile) files trials
   pub all : passes ≡ list_all is_passed trials
 
@@ -249,8 +250,8 @@ IsOutside order policy lessons =
 abbrev pub FailsToMake : LearnOrder → (policy : List ℕ) → Failure → Type 0
 FailsToMake order policy failure =
     ((is_some order.policy ≡ true) × Lacks (lesson_tree order HISTORY_ENTRIES) policy failure × (failure ≡ File → ⊥))
-    ⊎ ((failure ≡ Opening) × (calls : List Call) × (tests : ℕ) × (setup : Setup)
-    × IsTree order policy calls tests setup × MayEnd setup run.Opening)
+    ⊎ ((refusal : Refusal) × (failure ≡ Opening refusal) × (calls : List Call) × (tests : ℕ) × (setup : Setup)
+    × IsTree order policy calls tests setup × MayEnd setup (run.Opening refusal))
     ⊎ (failure ≡ NoMemory)
 
 -- why nothing is learned from lessons
@@ -303,9 +304,9 @@ picked file =
 -- a file is tried, and this says whether all its tests pass
 abbrev pub HasTrial : LearnOrder → (policy : List ℕ) → LearnedProfile → Tests → (passes : Bool) → Type 0
 HasTrial order policy profile file passes =
-    (trial : Result (List Judged) Reply) × IsTried order policy profile file trial × (passes ≡ is_passed trial)
+    (trial : Result (List Judged) Refusal) × IsTried order policy profile file trial × (passes ≡ is_passed trial)
 
 -- each lesson gets a reply that it must get
 abbrev pub AreMet : List Test → CallReplies → Type 0
 AreMet tests (Answered replies) = AllZip IsLearnedFrom tests replies.items
-AreMet tests (Refused reply) = ⊥
+AreMet tests (Refused refusal) = ⊥

@@ -6,4 +6,4 @@ use Rattle.ll_session.specs.declared.calls_run.CallReplies.TheVariants.{Answered
 -- this many calls have their replies, if they were made
 abbrev pub HasReplies : ℕ → CallReplies → Type 0
 HasReplies count (Answered replies) = count ≡ length replies.items
-HasReplies count (Refused reply) = ⊤
+HasReplies count (Refused refusal) = ⊤

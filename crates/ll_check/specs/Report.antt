@@ -108,7 +108,7 @@ abbrev pub Tells : Style → (file section : List ℕ) → List Test → CallRep
     → Type 0
 Tells style file section tests (Answered replies) before after tally =
     Judges style file section tests replies.items before after tally
-Tells style file section tests (Refused reply) before after tally = (tally.passed ≡ 0) × (tally.failed ≡ 1)
+Tells style file section tests (Refused refusal) before after tally = (tally.passed ≡ 0) × (tally.failed ≡ 1)
 
 -- the tests' calls are made with this setup, which leaves these entries, and the tests are reported and counted
 abbrev pub IsChecked : Style → Setup → (file section : List ℕ) → List Test → CallReplies → List Entry

@@ -71,8 +71,8 @@ impl Reporter<'_> {
     {
         match made {
             CallReplies::Answered(replies) => self.judge(out, tests, replies.as_slice()),
-            CallReplies::Refused(reply) => {
-                self.push_refused(out, history.entries(), reply)?;
+            CallReplies::Refused(refusal) => {
+                self.push_refused(out, history.entries(), &refusal.reply)?;
                 Ok(Tally {
                     passed: 0,
                     failed: 1,

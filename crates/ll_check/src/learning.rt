@@ -18,6 +18,7 @@ ghost use Rattle.ll_check.specs.Lessons.{IsBlank, IsHindered, IsProfile, IsTaugh
 ghost use Rattle.ll_check.specs.Lessons.{learner, lessons_of, picked};
 
 use crate::checks::{NamedText, have_tests, read_all, tell_bad, tell_untested};
+use crate::crowd::{Crowd, crowd_of};
 use crate::denied::Notes;
 use crate::lessons::{FileLessons, LessonNotes, lessons_in};
 use crate::reading::ReadFile;
@@ -72,10 +73,7 @@ impl<'a> Request<'a> {
         let Some(never) = options.withheld() else {
             return Err(Failure::CommandLine);
         };
-        let beneath = match paths_of(alloc, options.beneath.as_slice()) {
-            Ok(beneath) => beneath,
-            Err(failure) => return Err(failure),
-        };
+        let beneath = paths_of(alloc, options.beneath.as_slice())?;
         Ok(Request {
             name,
             most: options.most_rules(),
@@ -230,20 +228,30 @@ fn taught_by<R: Runner, E: Write>(
     }
 }
 
+// Prints that there are too many rules, and where most of them are. No contract says how.
+fn tell_many<E: Write>(profile: &LearnedProfile, most: usize, err: &mut E) {
+    let rules = profile.rules.len();
+    let _ = write!(err, "{rules} rules, {most} may be: ");
+    if most < RULESET_INODES {
+        let _ = write!(err, "--most {RULESET_INODES}, or ");
+    }
+    let _ = match crowd_of(profile.rules.as_slice()) {
+        Some(Crowd { directory, rules }) if rules > 1 => {
+            writeln!(err, "--beneath DIR, where {directory} has {rules}")
+        }
+        _ => writeln!(err, "--beneath DIR"),
+    };
+}
+
 // Reports whether there are no more rules than allowed. Prints it if there are.
 fn are_few<E: Write>(request: &Request<'_>, profile: &LearnedProfile, err: &mut E) -> bool
     ensures few { result ≡ true → length profile.now.rules.items ≤ request.now.most }
     ensures many { result ≡ false → request.now.most < length profile.now.rules.items }
 {
-    let rules = profile.rules.len();
-    let most = request.most;
-    if rules <= most {
+    if profile.rules.len() <= request.most {
         return true;
     }
-    let _ = writeln!(
-        err,
-        "{rules} rules, {most} may be: --most {RULESET_INODES}, or --beneath DIR"
-    );
+    tell_many(profile, request.most, err);
     false
 }
 

@@ -3,6 +3,7 @@
 
 mod checking;
 mod checks;
+mod crowd;
 mod denied;
 mod explaining;
 mod judging;
@@ -41,7 +42,7 @@ pub use policies::{FaultyPolicy, own_policies};
 pub use possible::answers_fit;
 pub use races::check_schedules;
 pub use reading::{CheckFault, Test};
-pub use refusing::{ProfileProgress, answered_text, is_refused, profile_call_text};
+pub use refusing::{ProfileProgress, answered_text, profile_call_text};
 pub use runner::{Runner, SharedRunner};
 pub use steps::StepTest;
 pub use wanted::Wanted;

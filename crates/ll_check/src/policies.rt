@@ -1,9 +1,9 @@
 //! The policies that sections of files of checks run under.
 
-ghost use Rattle.std.specs.Prelude.{◌≡◌, ◌⊎◌, ◌≤◌, [], List, map, option_map, string_bytes, IfErr, IfOk, OnOk};
+ghost use Rattle.std.specs.Prelude.{◌≡◌, ◌⊎◌, [], List, map, option_map, string_bytes, IfErr, IfOk, OnOk};
 ghost use Rattle.std.specs.List.{list_any};
 ghost use Rattle.std.specs.Str.{bytes_eq};
-ghost use Rattle.ll_rights.specs.declared.limits.TheConstants.{HISTORY_ENTRIES, TREE_NODES};
+ghost use Rattle.ll_rights.specs.declared.limits.TheConstants.{HISTORY_ENTRIES};
 ghost use Rattle.ll_program.specs.Options.{checked_in, checked_tree, tree_in};
 ghost use Rattle.ll_check.specs.Checks.{Tests, tests_of};
 ghost use Rattle.ll_check.specs.Files.{AreTestsIn, HasBadLine, order_for, own_paths, policy_for, policy_in, source_of};
@@ -18,15 +18,12 @@ use ll_wire::escaped;
 use std::alloc::{AllocError, Global};
 use std::io::Write;
 
-/// A section's own policy by which no tree is opened: its path, its text, the profile, and the limit of live nodes.
+/// A section's own policy by which no tree is opened: its path, its text, and the profile.
 #[derive(Clone, Copy)]
 pub struct FaultyPolicy<'a> {
     pub path: &'a str,
     pub text: &'a [u8],
     pub profile: &'a str,
-    pub nodes: usize,
-    ghost some: { 1 ≤ nodes },
-    ghost most: { nodes ≤ TREE_NODES },
 }
 
 // Returns the text of the policy with this path.
@@ -162,7 +159,6 @@ pub(crate) fn tell_own<E: Write, N: Notes>(
             path: own.file.as_str(),
             text,
             profile: own.profile.as_str(),
-            nodes: input.options.nodes,
         };
         notes.of_own_policy(&policy, failure);
     }

@@ -21,7 +21,6 @@ use ll_program::{CheckOptions, Checked, Failure, write_bytes};
 use ll_rights::Abi;
 use ll_rights::limits::HISTORY_ENTRIES;
 use ll_seq::Rules;
-use ll_session::copy_call;
 use ll_steps::{Report, World, WorldSetup, answer_text};
 use ll_wire::ScheduleLine;
 use std::alloc::{AllocError, Global};
@@ -46,13 +45,13 @@ fn copy_step(alloc: Global, step: &Step) -> Result<Step, AllocError>
 {
     Ok(match step {
         Step::Join => Step::Join,
-        Step::Begin(client, call) => Step::Begin(*client, copy_call(alloc, call)?),
+        Step::Begin(client, call) => Step::Begin(*client, call.copy(alloc)?),
         Step::Descend(client) => Step::Descend(*client),
         Step::Fork(client) => Step::Fork(*client),
         Step::Commit(client) => Step::Commit(*client),
         Step::Restart(client) => Step::Restart(*client),
-        Step::FdCommit(client, call) => Step::FdCommit(*client, copy_call(alloc, call)?),
-        Step::ClientStep(client, call) => Step::ClientStep(*client, copy_call(alloc, call)?),
+        Step::FdCommit(client, call) => Step::FdCommit(*client, call.copy(alloc)?),
+        Step::ClientStep(client, call) => Step::ClientStep(*client, call.copy(alloc)?),
     })
 }
 
@@ -66,7 +65,7 @@ fn make_line(alloc: Global, world: &mut World, line: &ScheduleLine) -> Result<Re
             Ok(world.step(step))
         }
         ScheduleLine::Do(client, call) => {
-            let call = copy_call(alloc, call)?;
+            let call = call.copy(alloc)?;
             Ok(world.make(*client, call))
         }
     }

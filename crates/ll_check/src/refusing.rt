@@ -46,8 +46,8 @@ impl ProfileProgress {
     }
 }
 
-/// Reports whether the reply is a refusal or a denial.
-pub fn is_refused(reply: &Reply) -> bool {
+// Reports whether the reply is a refusal or a denial.
+fn is_refused(reply: &Reply) -> bool {
     matches!(reply, Reply::Refused(_) | Reply::Denied(_))
 }
 

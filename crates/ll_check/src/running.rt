@@ -4,6 +4,7 @@ ghost use Rattle.std.specs.Prelude.{◌≡◌, ◌⊎◌, All, map, IfErr, IfOk}
 ghost use Rattle.std.specs.List.{list_any};
 ghost use Rattle.ll_session.specs.CallsRun.{Makes};
 ghost use Rattle.ll_session.specs.Run.{MayEnd};
+ghost use Rattle.ll_session.specs.declared.refusal.Refusal.{Refusal};
 ghost use Rattle.ll_wire.specs.Entries.{IsEntry};
 ghost use Rattle.ll_check.specs.Lessons.{is_no_memory, ran_out};
 
@@ -76,10 +77,11 @@ pub(crate) fn make_lessons<R: Runner>(
 
 /// Returns the failure for a fault of such a run, which reads and writes no file.
 pub(crate) fn failure_of(fault: RunFault) -> Failure
-    ensures { ((result ≡ Failure.Opening) × (fault ≡ RunFault.Opening)) ⊎ (result ≡ Failure.NoMemory) }
+    ensures { ((refusal : Refusal) × (result ≡ Failure.Opening refusal) × (fault ≡ RunFault.Opening refusal))
+        ⊎ (result ≡ Failure.NoMemory) }
 {
     match fault {
-        RunFault::Opening => Failure::Opening,
+        RunFault::Opening(refusal) => Failure::Opening(refusal),
         RunFault::Session(_) => Failure::NoMemory,
     }
 }
@@ -102,6 +104,6 @@ pub(crate) fn ran_out(made: &CallReplies) -> bool
 {
     match made {
         CallReplies::Answered(replies) => have_no_memory(replies.as_slice()),
-        CallReplies::Refused(reply) => is_no_memory(reply),
+        CallReplies::Refused(refusal) => is_no_memory(&refusal.reply),
     }
 }

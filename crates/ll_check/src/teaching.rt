@@ -82,8 +82,8 @@ fn are_answered<E: Write>(
 {
     match made {
         CallReplies::Answered(replies) => are_met(reporter, lessons, replies.as_slice(), err),
-        CallReplies::Refused(reply) => {
-            tell_refusal(reporter, history, reply, err);
+        CallReplies::Refused(refusal) => {
+            tell_refusal(reporter, history, &refusal.reply, err);
             false
         }
     }

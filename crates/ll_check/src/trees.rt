@@ -52,10 +52,7 @@ impl Trees<'_, '_> {
             × Lacks (lesson_tree (learn_in self.now.options.now) HISTORY_ENTRIES) self.now.policy.now failure) }
     {
         let mut text = self.policy;
-        match setup_of(self.alloc, &self.options.tree(), &mut text) {
-            Ok(setup) => Ok(setup),
-            Err(failure) => Err(failure),
-        }
+        setup_of(self.alloc, &self.options.tree(), &mut text)
     }
 
     /// Returns the setup that the policy gives, with nobody under a layer. Errors: the policy's text gives no setup, or

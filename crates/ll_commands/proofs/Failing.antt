@@ -19,8 +19,8 @@ module _ (run : TreeOrder) (before : List Text) (word file : List ℕ) where
   by_word CommandLine is none = inl (none refl)
   by_word (Policy fault) (inl e) none = absurd (cc e)
   by_word (Policy fault) (inr e) none = absurd (cc e)
-  by_word Opening (inl e) none = absurd (cc e)
-  by_word Opening (inr e) none = absurd (cc e)
+  by_word (Opening refusal) (inl e) none = absurd (cc e)
+  by_word (Opening refusal) (inr e) none = absurd (cc e)
   by_word File is none = tt
   by_word Output (inl e) none = absurd (cc e)
   by_word Output (inr e) none = absurd (cc e)
@@ -32,7 +32,7 @@ module _ (run : TreeOrder) (before : List Text) (word file : List ℕ) where
       → CommandFails run before word file f
   by_opening setup CommandLine is fails = absurd fails
   by_opening setup (Policy fault) is fails = absurd fails
-  by_opening setup Opening is fails = (setup, is, fails)
+  by_opening setup (Opening refusal) is fails = (setup, is, fails)
   by_opening setup File is fails = tt
   by_opening setup Output is fails = absurd fails
   by_opening setup Socket is fails = absurd fails
@@ -43,8 +43,8 @@ by_file number file CommandLine (inl e) = absurd (cc e)
 by_file number file CommandLine (inr e) = absurd (cc e)
 by_file number file (Policy fault) (inl e) = absurd (cc e)
 by_file number file (Policy fault) (inr e) = absurd (cc e)
-by_file number file Opening (inl e) = absurd (cc e)
-by_file number file Opening (inr e) = absurd (cc e)
+by_file number file (Opening refusal) (inl e) = absurd (cc e)
+by_file number file (Opening refusal) (inr e) = absurd (cc e)
 by_file number file File is = tt
 by_file number file Output (inl e) = absurd (cc e)
 by_file number file Output (inr e) = absurd (cc e)

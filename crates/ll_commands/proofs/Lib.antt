@@ -8,6 +8,7 @@ pub mod Lessons
 pub mod Loadings
 pub mod Numbers
 pub mod Spelled
+pub mod Replied
 pub mod Rows
 pub mod Stopping
 pub mod Tables

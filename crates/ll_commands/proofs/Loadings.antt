@@ -2,18 +2,22 @@
 use Rattle.std.specs.Prelude.{◌≡◌, ◌≤◌, ℕ, List, [], ◌∷◌, ◌++◌, Option, None, Some, drop, refl}
 use Rattle.std.specs.declared.alloc.Global.{Global}
 use Rattle.std.specs.declared.vec.Vec.{Vec}
-use Rattle.std.proofs.Common.{ap, arith, subst, sym}
+use Rattle.std.proofs.Common.{◌∙◌, ap, arith, false, subst, sym}
+use Rattle.std.proofs.lemmas.Bool.{ne_eqb}
 use Rattle.std.proofs.lemmas.List.{take-append-drop}
 use Rattle.ll_client.specs.Closed.{IsClosed}
 use Rattle.ll_client.specs.Entries.{Knows}
 use Rattle.ll_seq.specs.declared.call.Call.{Call}
 use Rattle.ll_seq.specs.declared.reply.Entry.{Entry}
-use Rattle.ll_seq.specs.declared.reply.Reply.{Reply}
 use Rattle.ll_seq.specs.declared.reply.Reply.TheVariants.{Done}
 use Rattle.ll_seq.specs.declared.rules.Rules.{Rules}
-use Rattle.ll_session.specs.Opening.{Loads, Makes, Opens, Stops, fresh, made, stopped, unmade}
+use Rattle.ll_session.specs.Opening.{Loads, Makes, Opens, Refuses, Stops, coming_at, fresh, is_told, is_told_to, made}
+use Rattle.ll_session.specs.Opening.{stopped}
+use Rattle.ll_session.specs.declared.refusal.Opener.{Opener}
+use Rattle.ll_session.specs.declared.refusal.Opener.TheVariants.{Loader}
+use Rattle.ll_session.specs.declared.refusal.Refusal.{Refusal}
 use Rattle.ll_session.specs.declared.setup.Setup.{Setup}
-use Rattle.ll_session.proofs.Coming.{comes_then, loads_none, makes_so, stops_so}
+use Rattle.ll_session.proofs.Coming.{comes_then, comes_unmade, loads_none, makes_so, no_loader, stops_so}
 use Rattle.ll_session.proofs.Ways.{at_end, closes_here}
 use Rattle.ll_session.specs.Between.{Leads, between}
 use Rattle.ll_session.specs.PartySession.{Connects, Session, following, joined}
@@ -44,15 +48,26 @@ module _ (rules : Rules) (room limit : ℕ) where
       comes_then rules room limit [] (h.0 ∷ []) ks 0 (λ n s t. Makes n s calls.items t) refl (begins h.0 h.1)
       (makes_so rules room limit 0 (h.0 ∷ []) ks calls.items (omega arith) h.2)
 
-  stops : (loader : Option (Vec Call Global)) (ks : List Knows) → WasStopped limit loader ks
-      → Leads rules room limit [] ks (λ s t. (reply : Reply) × Loads s loader (unmade reply t))
-  stops None ks h = absurd h
-  stops (Some calls) ks h = so_leads rules room limit [] ks
-      (λ s t. (mid : Session) × Connects s Done mid × Stops (following s) (joined s mid) calls.items h.2 t)
-      (λ s t. (reply : Reply) × Loads s (Some calls) (unmade reply t))
-      (comes_then rules room limit [] (h.0 ∷ []) ks 0 (λ n s t. Stops n s calls.items h.2 t) refl (begins h.0 h.1)
-      (stops_so rules room limit 0 (h.0 ∷ []) ks calls.items h.2 (omega arith) h.3))
-      (λ history end c s t it. (h.2, it))
+  stops : (loader : Option (Vec Call Global)) (refusal : Refusal) (ks : List Knows)
+      → WasStopped limit loader refusal ks
+      → Leads rules room limit [] ks (λ s t. Loads s loader (coming_at refusal t))
+  stops None refusal ks h = absurd h
+  stops (Some calls) refusal ks h =
+      comes_unmade rules room limit [] ks calls.items refusal h.1
+      (comes_then rules room limit [] (h.2 ∷ []) ks 0 (λ n s t. Stops n s calls.items refusal.calls refusal.reply t)
+      refl (begins h.2 h.3)
+      (stops_so rules room limit 0 (h.2 ∷ []) ks calls.items refusal.calls refusal.reply (omega arith) h.4))
+
+-- it is the loader that is refused, and nothing is written
+by_loader : (loader : Option (Vec Call Global)) (limit : ℕ) (refusal : Refusal) (ks : List Knows)
+    → WasStopped limit loader refusal ks → (refusal.opener ≡ Loader) × (is_told refusal ≡ false)
+by_loader None limit refusal ks h = absurd h
+by_loader (Some calls) limit refusal ks h =
+    let some = h.1 in (
+      h.0,
+      ap (λ (o : Opener). is_told_to o refusal.calls) h.0
+          ∙ ne_eqb refusal.calls 0 (λ e. omega (arith, e, some)),
+    )
 
 module _ (setup : Setup) (rules : Rules) (limit : ℕ) (ks : List Knows) (entries : List Entry)
     (same : rules ≡ setup.rules) (most : limit ≡ setup.history) (c : IsClosed rules setup.nodes limit entries ks)
@@ -67,19 +82,13 @@ module _ (setup : Setup) (rules : Rules) (limit : ℕ) (ks : List Knows) (entrie
         history ks))) is it)) (closes_here rules setup.nodes limit ks entries c) in
         (e.0, e.2)
 
-    pub was_stopped : WasStopped limit setup.loader ks → Opens setup stopped
-    was_stopped h =
-        let e = at_end setup rules limit ks entries
-        (λ t. (reply : Reply) × Loads (fresh setup) setup.loader (unmade reply t)) (λ s t. t ≡ s) same most
-        (so_leads rules setup.nodes limit [] ks (λ s t. (reply : Reply) × Loads s setup.loader (unmade reply t))
-        (λ s t. s ≡ fresh setup → (reply : Reply) × Loads (fresh setup) setup.loader (unmade reply t))
-        (stops rules setup.nodes limit setup.loader ks h)
-        (λ history end k s t it is. (
-          it.0,
-          subst (λ (z : Session). Loads z setup.loader (unmade it.0 (between rules
-              setup.nodes limit history ks))) is it.1,
-        ))) (closes_here rules setup.nodes limit ks entries c) in
-        (e.2.0, e.0, e.2.1)
+    pub was_stopped : (refusal : Refusal) → WasStopped limit setup.loader refusal ks → Opens setup (stopped refusal)
+    was_stopped refusal h =
+        let by = by_loader setup.loader limit refusal ks h in
+        let e = at_end setup rules limit ks entries (Refuses setup refusal) (λ s t. t ≡ s) same most
+        (no_loader setup rules setup.nodes limit [] ks refusal by.0
+        (stops rules setup.nodes limit setup.loader refusal ks h)) (closes_here rules setup.nodes limit ks entries c) in
+        (by.1, e.0, e.2)
 
 -- the history begins as the loader's calls do, where it knows of no other entries
 pub begins_loaded : (setup : Setup) (ks others : List Knows) (entries : List Entry)

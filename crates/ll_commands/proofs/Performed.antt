@@ -52,7 +52,7 @@ module _ (order : ScheduleOrder) (known out out' : Option (List ℕ)) where
   of_saving : (failure : Failure) → IsOfSaving failure → IsOfDevices failure
   of_saving CommandLine by = by
   of_saving (Policy fault) by = by
-  of_saving Opening by = by
+  of_saving (Opening refusal) by = by
   of_saving File by = tt
   of_saving Output by = absurd by
   of_saving Socket by = by

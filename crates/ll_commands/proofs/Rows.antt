@@ -8,14 +8,16 @@ use Rattle.ll_program.specs.Policy.{IsSetup, Lacks}
 use Rattle.ll_program.specs.declared.failure.Failure.{Failure}
 use Rattle.ll_program.specs.declared.failure.Failure.TheVariants.{CommandLine, Policy, Opening, File, Output, Socket}
 use Rattle.ll_program.specs.declared.failure.Failure.TheVariants.{NoMemory}
+use Rattle.ll_session.specs.declared.refusal.Refusal.{Refusal}
 use Rattle.ll_session.specs.declared.setup.Setup.{Setup}
 use Rattle.ll_commands.specs.Opening.{FailsSo, IsStopped}
 use Rattle.ll_commands.specs.Rights.{LacksRights}
 
-pub fails_so : (P Q : Type 0) (f : Failure) → (P → Q) → FailsSo P f → FailsSo Q f
+pub fails_so : (P Q : Refusal → Type 0) (f : Failure) → ((refusal : Refusal) → P refusal → Q refusal) → FailsSo P f
+    → FailsSo Q f
 fails_so P Q CommandLine g p = absurd p
 fails_so P Q (Policy fault) g p = absurd p
-fails_so P Q Opening g p = g p
+fails_so P Q (Opening refusal) g p = g refusal p
 fails_so P Q File g p = absurd p
 fails_so P Q Output g p = absurd p
 fails_so P Q Socket g p = absurd p
@@ -30,7 +32,7 @@ module _ (words : List Text) (tree : TreeOrder) (text : List ℕ) where
   pub by_words : (f : Failure) → IsOfWords f → (f ≡ CommandLine → HasBadWord words) → LacksRights words tree text f
   by_words CommandLine is bad = inl (bad refl)
   by_words (Policy fault) is bad = absurd is
-  by_words Opening is bad = absurd is
+  by_words (Opening refusal) is bad = absurd is
   by_words File is bad = tt
   by_words Output is bad = absurd is
   by_words Socket is bad = absurd is
@@ -39,7 +41,7 @@ module _ (words : List Text) (tree : TreeOrder) (text : List ℕ) where
   pub by_setup : (f : Failure) → Lacks tree text f → LacksRights words tree text f
   by_setup CommandLine lacks = inr lacks
   by_setup (Policy fault) lacks = lacks
-  by_setup Opening lacks = absurd lacks
+  by_setup (Opening refusal) lacks = absurd lacks
   by_setup File lacks = tt
   by_setup Output lacks = absurd lacks
   by_setup Socket lacks = absurd lacks
@@ -49,7 +51,7 @@ module _ (words : List Text) (tree : TreeOrder) (text : List ℕ) where
       → LacksRights words tree text f
   by_opening setup CommandLine is fails = absurd fails
   by_opening setup (Policy fault) is fails = absurd fails
-  by_opening setup Opening is fails = (setup, is, fails)
+  by_opening setup (Opening refusal) is fails = (setup, is, fails)
   by_opening setup File is fails = tt
   by_opening setup Output is fails = absurd fails
   by_opening setup Socket is fails = absurd fails

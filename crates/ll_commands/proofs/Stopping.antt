@@ -18,8 +18,8 @@ pub stops_early : (setup : Setup) (rules : Rules) (limit port : ℕ) (ks : List 
     → MayStop setup port out out' failure
 stops_early setup rules limit port ks entries out out' CommandLine same most c h = absurd h
 stops_early setup rules limit port ks entries out out' (Policy fault) same most c h = absurd h
-stops_early setup rules limit port ks entries out out' Opening same most c h =
-    (was_stopped setup rules limit ks entries same most c h.0, h.1)
+stops_early setup rules limit port ks entries out out' (Opening refusal) same most c h =
+    (was_stopped setup rules limit ks entries same most c refusal h.0, h.1)
 stops_early setup rules limit port ks entries out out' Socket same most c h =
     (may_load setup rules limit ks entries same most c h.0, h.1)
 stops_early setup rules limit port ks entries out out' Output same most c h =

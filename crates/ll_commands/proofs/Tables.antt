@@ -37,7 +37,7 @@ module _ (order : RightsOrder) (policy : List ℕ) where
   pub by_words : (f : Failure) → IsOfWords f → (f ≡ CommandLine → HasBadWord order.paths) → LacksTables order policy f
   by_words CommandLine is bad = inl (refl, bad refl)
   by_words (Policy fault) is bad = absurd is
-  by_words Opening is bad = absurd is
+  by_words (Opening refusal) is bad = absurd is
   by_words File is bad = absurd is
   by_words Output is bad = absurd is
   by_words Socket is bad = absurd is

@@ -53,7 +53,7 @@ MayFail order text CommandLine =
     ⊎ ((plan : Plan) × IsPlanOf (parse_document text) plan × (profile_of (Some order.profile) plan ≡ None))
     ⊎ ((c : Confinement) × IsOfPolicy order.profile text c × (is_enforceable c ≡ false))
 MayFail order text (Policy fault) = (tree : TreeOrder) → Lacks tree text (Policy fault)
-MayFail order text Opening = ⊥
+MayFail order text (Opening refusal) = ⊥
 MayFail order text File = ⊤
 MayFail order text Output = ⊤
 MayFail order text Socket = ⊥

@@ -65,7 +65,7 @@ IsMisaimed order text =
 abbrev pub LacksLesson : LearnOrder → List ℕ → Failure → Type 0
 LacksLesson order text CommandLine = IsMisaimed order text
 LacksLesson order text (Policy fault) = ⊥
-LacksLesson order text Opening = ⊥
+LacksLesson order text (Opening refusal) = ⊥
 LacksLesson order text File = ⊤
 LacksLesson order text Output = ⊥
 LacksLesson order text Socket = ⊥
@@ -89,7 +89,7 @@ IsLearning order text out out' (Ok Differs) = ⊥
 IsLearning order text out out' (Err CommandLine) =
     (IsMisaimed order text ⊎ ((rules : ℕ) × LearnsMuch order text rules)) × (out' ≡ out)
 IsLearning order text out out' (Err (Policy fault)) = ⊥
-IsLearning order text out out' (Err Opening) = ⊥
+IsLearning order text out out' (Err (Opening refusal)) = ⊥
 IsLearning order text out out' (Err File) = out' ≡ out
 IsLearning order text out out' (Err Output) =
     (written : List ℕ) × IsLearnedText order text written × AppendsFront out out' written

@@ -52,11 +52,12 @@ abbrev pub IsTable : RightsOrder → (profile : Text) → (policy table : List �
 IsTable order = IsTableIn (style_of order) order
 
 -- Why the rights on these paths in this tree aren't known: a word spells no path; there is no setup; a call that the
--- policy asks for is refused; the file can't be read; NoMemory
+-- policy asks for is refused like this; the file can't be read; NoMemory
 abbrev pub LacksRights : (words : List Text) → TreeOrder → (policy : List ℕ) → Failure → Type 0
 LacksRights words tree policy CommandLine = HasBadWord words ⊎ Lacks tree policy CommandLine
 LacksRights words tree policy (Policy fault) = Lacks tree policy (Policy fault)
-LacksRights words tree policy Opening = (setup : Setup) × IsSetup tree policy setup × IsStopped setup
+LacksRights words tree policy (Opening refusal) =
+    (setup : Setup) × IsSetup tree policy setup × IsStopped setup refusal
 LacksRights words tree policy File = ⊤
 LacksRights words tree policy Output = ⊥
 LacksRights words tree policy Socket = ⊥

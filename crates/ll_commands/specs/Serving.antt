@@ -57,7 +57,7 @@ MayLoad setup = (loaded : Session) × Loads (fresh setup) setup.loader (made loa
 abbrev pub MayStop : Setup → (port : ℕ) → (out out' : Option (List ℕ)) → Failure → Type 0
 MayStop setup port out out' CommandLine = ⊥
 MayStop setup port out out' (Policy fault) = ⊥
-MayStop setup port out out' Opening = Opens setup stopped × (out' ≡ out)
+MayStop setup port out out' (Opening refusal) = Opens setup (stopped refusal) × (out' ≡ out)
 MayStop setup port out out' Socket = MayLoad setup × (out' ≡ out)
 MayStop setup port out out' Output = MayLoad setup × AppendsFront out out' (listening port)
 MayStop setup port out out' File = ⊥
@@ -96,7 +96,7 @@ module _ (limit port : ℕ) (loader : Option (Vec Call Global)) (ks : List Knows
   abbrev pub EndsEarly : (out out' : Option (List ℕ)) → Failure → Type 0
   EndsEarly out out' CommandLine = ⊥
   EndsEarly out out' (Policy fault) = ⊥
-  EndsEarly out out' Opening = WasStopped limit loader ks × (out' ≡ out)
+  EndsEarly out out' (Opening refusal) = WasStopped limit loader refusal ks × (out' ≡ out)
   EndsEarly out out' Socket = HasLoaded limit loader ks × (out' ≡ out)
   EndsEarly out out' Output = HasLoaded limit loader ks × AppendsFront out out' (listening port)
   EndsEarly out out' File = ⊥

@@ -108,7 +108,7 @@ IsToldSo order file conclusion written =
 abbrev pub EntryFails : ℕ → List ℕ → Failure → Type 0
 EntryFails number file CommandLine = IsHistoryWhy Lines (pieces file) number history.NoEntry
 EntryFails number file (Policy fault) = ⊥
-EntryFails number file Opening = ⊥
+EntryFails number file (Opening refusal) = ⊥
 EntryFails number file File = ⊤
 EntryFails number file Output = ⊥
 EntryFails number file Socket = ⊥
@@ -120,7 +120,8 @@ abbrev pub CommandFails : TreeOrder → (before : List Text) → (word file : Li
 CommandFails tree before word file CommandLine =
     (IsNoCommand word ⊎ HasNoCommand before) ⊎ Lacks tree file CommandLine
 CommandFails tree before word file (Policy fault) = Lacks tree file (Policy fault)
-CommandFails tree before word file Opening = (setup : Setup) × IsSetup tree file setup × IsStopped setup
+CommandFails tree before word file (Opening refusal) =
+    (setup : Setup) × IsSetup tree file setup × IsStopped setup refusal
 CommandFails tree before word file File = ⊤
 CommandFails tree before word file Output = ⊥
 CommandFails tree before word file Socket = ⊥

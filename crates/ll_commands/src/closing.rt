@@ -9,7 +9,7 @@ ghost use Rattle.ll_wire.specs.Entries.{IsEntry};
 use ll_calls::Tree;
 use ll_client::{Client, Shape};
 use ll_seq::History;
-use ll_session::are_entries;
+use ll_session::{are_entries, close_all};
 use ll_walk::Gate;
 use std::sync::Wait;
 
@@ -24,14 +24,7 @@ pub(crate) fn close<N: Shape, H: Wait, G: Gate<N>>(
         → IsClosed N.rules nodes N.limit result.entries (map (λ c. c.rider) clients.items) }
     ensures entries { All IsEntry result.entries }
 {
-    match tree.close(clients) {
-        Ok(history) => {
-            are_entries(&history);
-            history
-        }
-        Err(_back) => {
-            for _ in rt.forever() {}
-            unreachable!()
-        }
-    }
+    let history = close_all(rt, tree, clients);
+    are_entries(&history);
+    history
 }

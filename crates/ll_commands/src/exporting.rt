@@ -173,8 +173,6 @@ pub fn export_checked<R: Read, W: Write>(
     if checked != Checked::Passed {
         return Ok(Conclusion::Checked(checked));
     }
-    match export(alloc, options, file, out) {
-        Ok(()) => Ok(Conclusion::Done),
-        Err(failure) => Err(failure),
-    }
+    export(alloc, options, file, out)?;
+    Ok(Conclusion::Done)
 }

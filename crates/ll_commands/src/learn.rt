@@ -89,7 +89,13 @@ fn fault_line(alloc: Global, name: &str, fault: Unlearned) -> Result<String, All
 // Returns the line on too many rules.
 fn many_line(alloc: Global, options: &LearnOptions, rules: usize) -> Result<String, AllocError> {
     let most = options.most_rules();
-    format!(in alloc; "{rules} rules, {most} may be: --most {RULESET_INODES}, or --beneath DIR\n")
+    if most < RULESET_INODES {
+        format!(in alloc;
+            "{rules} rules, {most} may be: --most {RULESET_INODES}, or --beneath DIR\n"
+        )
+    } else {
+        format!(in alloc; "{rules} rules, {most} may be: --beneath DIR\n")
+    }
 }
 
 // Prints why nothing is written to the output. Returns how the command ends.

@@ -40,7 +40,7 @@ pub use ll_picture::Film;
 pub use log::Log;
 pub use opening::{Opened, open_tree};
 pub use port::{Binds, Listens, Loopback, Missed, Port};
-pub use profiles::{all_tables, tell_all_rights};
+pub use profiles::{ProfileNotes, all_tables, tell_all_rights};
 pub use rights::{rights_table, rows_told, tell_rights};
 pub use schedules::{
     Drawn, conclude_schedule, draw_in, draw_over, draw_schedule, film_by, perform_over,

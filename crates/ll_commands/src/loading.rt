@@ -5,13 +5,14 @@ ghost use Rattle.std.specs.List.{All};
 ghost use Rattle.ll_client.specs.Entries.{Knows};
 ghost use Rattle.ll_program.specs.declared.failure.Failure.{Failure};
 ghost use Rattle.ll_session.specs.Session.{AreOthers};
+ghost use Rattle.ll_session.specs.declared.refusal.Refusal.{Refusal};
 ghost use Rattle.ll_commands.specs.Loading.{HasBegun, HasLoaded, WasStopped, entry_count};
 
 use ll_calls::Tree;
 use ll_client::{Client, Shape};
 use ll_program::Failure;
 use ll_seq::Call;
-use ll_session::{Party, make_calls};
+use ll_session::{Opener, Party, dead_end, make_calls};
 use ll_walk::Gate;
 use std::sync::Wait;
 
@@ -38,7 +39,7 @@ pub(crate) fn knows_only<N: Shape, H: Wait>(rt: &H, clients: &[Client<N>], entri
     ensures { All (λ c. c.rider.seen ≤ entries) clients.now }
 {
     if !know_at_most(clients, entries as u64) {
-        for _ in rt.forever() {}
+        dead_end(rt);
         unreachable!()
     }
 }
@@ -63,7 +64,7 @@ fn come<N: Shape, H: Wait, G: Gate<N>>(
 }
 
 /// Adds the loader to a new tree, if there is one, and makes its calls. Errors: NoMemory if it can't come, and Opening
-/// if one of its calls is refused.
+/// with the refusal if one of its calls is refused.
 pub(crate) fn load<N: Shape, H: Wait, G: Gate<N>>(
     rt: &H,
     tree: &Tree<N, G>,
@@ -74,17 +75,14 @@ pub(crate) fn load<N: Shape, H: Wait, G: Gate<N>>(
     requires calls { IfSome loader (λ calls. AreOthers calls.items) }
     ensures ok { OnOk result (HasLoaded N.limit loader party.new) }
     ensures err { IfErr result (λ failure. (failure ≡ Failure.NoMemory)
-        ⊎ ((failure ≡ Failure.Opening) × WasStopped N.limit loader party.new)) }
+        ⊎ ((refusal : Refusal) × (failure ≡ Failure.Opening refusal) × WasStopped N.limit loader refusal party.new)) }
 {
     let Some(calls) = loader else {
         return Ok(());
     };
     come(rt, tree, party)?;
-    match make_calls(rt, tree, party, 0, calls) {
+    match make_calls(rt, tree, party, 0, Opener::Loader, calls) {
         Ok(()) => Ok(()),
-        Err(reply) => {
-            drop(reply);
-            Err(Failure::Opening)
-        }
+        Err(refusal) => Err(Failure::Opening(refusal)),
     }
 }

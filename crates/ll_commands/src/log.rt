@@ -8,8 +8,9 @@ use crate::counts::Counts;
 use crate::trouble::Troubled;
 use ll_client::Shape;
 use ll_program::ServeOptions;
+use ll_rights::Errno;
 use ll_seq::Reply;
-use ll_session::{Served, Stream, Watches, reply_line};
+use ll_session::{Refusal, Served, Stream, Watches, reply_line};
 use ll_wire::SessionFault;
 use std::alloc::Global;
 use std::fmt::Display;
@@ -38,6 +39,12 @@ struct Desk<E> {
     open: u64,
     connections: u64,
     total: Counts,
+    refusal: Option<Refusal>,
+}
+
+// Reports whether a call of the profile is refused, and not since the others have filled the tree or its history.
+fn is_by_policy(refusal: &Refusal) -> bool {
+    refusal.calls != 0 && !matches!(refusal.reply, Reply::Refused(Errno::HistoryFull))
 }
 
 impl<E: Write> Desk<E> {
@@ -72,13 +79,13 @@ impl<E: Write> Desk<E> {
         &mut self,
         stream: &Stream<Heard<R>, Told<W>>,
         served: &Served<N, Heard<R>, Told<W>>,
-        refusal: Option<&Reply>,
+        refusal: Option<&Refusal>,
     )
         ensures { self.new.total ≡ self.old.total }
     {
         let (number, counts) = (stream.number, Counts::of(served));
         match (&served.outcome.ended, refusal) {
-            (Ok(()), Some(reply)) => match reply_line(self.alloc, reply) {
+            (Ok(()), Some(refusal)) => match reply_line(self.alloc, &refusal.reply) {
                 Ok(line) => self.tell_end(number, counts, &line.as_str().trim_end()),
                 Err(error) => self.tell_end(number, counts, &error),
             },
@@ -92,19 +99,32 @@ impl<E: Write> Desk<E> {
         }
     }
 
+    // Keeps the first refusal that is by the policy.
+    fn keep(&mut self, refusal: Option<Refusal>)
+        ensures { self.new.total ≡ self.old.total }
+    {
+        if let Some(refusal) = refusal
+            && self.refusal.is_none()
+            && is_by_policy(&refusal)
+        {
+            self.refusal = Some(refusal);
+        }
+    }
+
     fn went<N: Shape, R, W>(
         &mut self,
         stream: &Stream<Heard<R>, Told<W>>,
         served: &Served<N, Heard<R>, Told<W>>,
-        refusal: Option<&Reply>,
+        refusal: Option<Refusal>,
     )
         ensures { self.new.total ≡ plus self.old.total
             (record { clients = length served.now.clients.items; tally = served.now.outcome.tally }) }
     {
         self.open = self.open.saturating_sub(1);
         self.total = self.total.plus(Counts::of(served));
-        self.tell_ended(stream, served, refusal);
+        self.tell_ended(stream, served, refusal.as_ref());
         self.tell_open();
+        self.keep(refusal);
     }
 
     fn missed(&mut self, error: &io::Error) {
@@ -148,8 +168,15 @@ impl<'a, H: Wait, E: Write> Log<'a, H, E> {
             open: 0,
             connections: 0,
             total: Counts::none(),
+            refusal: None,
         });
         Log { rt, desk }
+    }
+
+    /// Returns the first refusal of a call of a connection's profile, if there is one that the other connections aren't
+    /// the reason of, and forgets it.
+    pub fn refusal(&self) -> Option<Refusal> {
+        self.desk.lock(self.rt).refusal.take()
     }
 
     /// Prints that one couldn't be accepted.
@@ -172,7 +199,7 @@ impl<H: Wait, E: Write, R, W> Watches<Heard<R>, Told<W>> for Log<'_, H, E> {
         &self,
         stream: &Stream<Heard<R>, Told<W>>,
         served: &Served<N, Heard<R>, Told<W>>,
-        refusal: Option<&Reply>,
+        refusal: Option<Refusal>,
     ) {
         self.desk.lock(self.rt).went(stream, served, refusal);
     }

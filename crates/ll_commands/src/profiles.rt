@@ -13,6 +13,12 @@ use ll_why::RowStyle;
 use std::alloc::{AllocError, Global};
 use std::io::{Read, Write};
 
+/// Is notified of the profile at which the tables of all end.
+pub trait ProfileNotes {
+    /// The profile with this name has no table.
+    fn of_profile(&mut self, profile: &str);
+}
+
 // How the profile's rows are written among those of all.
 fn style_among<'a>(options: &RightsOptions, profile: &'a str) -> RowStyle<'a>
     ensures { IsStyleAmong (rights_in options.now) profile.entry.now result }
@@ -77,11 +83,12 @@ fn push_table(
 }
 
 // Returns the tables of these profiles, by the policy with this text.
-fn tables_of(
+fn tables_of<N: ProfileNotes>(
     alloc: Global,
     options: &RightsOptions,
     policy: &[u8],
     profiles: &[&str],
+    notes: &mut N,
 ) -> Result<String, Failure>
     ensures tables { IfOk result (λ text. AreTables (rights_in options.now) policy.now
         (map (λ p. p.now) profiles.now) (string_bytes text)) }
@@ -91,14 +98,22 @@ fn tables_of(
     for profile in profiles {
         match push_table(alloc, options, policy, profile, &mut text) {
             Ok(()) => {}
-            Err(failure) => return Err(failure),
+            Err(failure) => {
+                notes.of_profile(profile);
+                return Err(failure);
+            }
         }
     }
     Ok(text)
 }
 
 // Returns the tables of all profiles of the policy with this text.
-fn tables_by(alloc: Global, options: &RightsOptions, policy: &[u8]) -> Result<String, Failure>
+fn tables_by<N: ProfileNotes>(
+    alloc: Global,
+    options: &RightsOptions,
+    policy: &[u8],
+    notes: &mut N,
+) -> Result<String, Failure>
     ensures tables { IfOk result (λ text. IsAllTables (rights_in options.now) policy.now (string_bytes text)) }
     ensures failure { IfErr result (LacksTables (rights_in options.now) policy.now) }
 {
@@ -107,17 +122,19 @@ fn tables_by(alloc: Global, options: &RightsOptions, policy: &[u8]) -> Result<St
         Err(failure) => return Err(failure),
     };
     match plan.names(alloc) {
-        Ok(names) => tables_of(alloc, options, policy, names.as_slice()),
+        Ok(names) => tables_of(alloc, options, policy, names.as_slice(), notes),
         Err(_) => Err(Failure::NoMemory),
     }
 }
 
 /// Returns the tables of all profiles that the options ask for, by the policy in this file. Errors: a word spells no
-/// path, the policy has a fault, the first profile that can't be opened, the file can't be read, or memory ran out.
-pub fn all_tables<R: Read>(
+/// path, the policy has a fault, the first profile that can't be opened, which is noted, the file can't be read, or
+/// memory ran out.
+pub fn all_tables<R: Read, N: ProfileNotes>(
     alloc: Global,
     options: &RightsOptions,
     file: &mut R,
+    notes: &mut N,
 ) -> Result<String, Failure>
     ensures tables { IfOk result (λ tables. (text : List ℕ) × IfSome (R.remaining file.old) (λ told. text ≡ told)
         × IsAllTables (rights_in options.now) text (string_bytes tables)) }
@@ -132,23 +149,24 @@ pub fn all_tables<R: Read>(
         Ok(text) => text,
         Err(failure) => return Err(failure),
     };
-    tables_by(alloc, options, text.as_slice())
+    tables_by(alloc, options, text.as_slice(), notes)
 }
 
 /// Writes the tables of all profiles that the options ask for, by the policy in this file. Writes nothing before they
 /// are complete, and doesn't retry after a failure. Errors: those of `all_tables`; the output failed.
-pub fn tell_all_rights<R: Read, W: Write>(
+pub fn tell_all_rights<R: Read, W: Write, N: ProfileNotes>(
     alloc: Global,
     options: &RightsOptions,
     file: &mut R,
     out: &mut W,
+    notes: &mut N,
 ) -> Result<(), Failure>
     ensures tables { OnOk result ((text : List ℕ) × IfSome (R.remaining file.old) (λ told. text ≡ told)
         × Writes (W.contents out.old) (W.contents out.new) (IsAllTables (rights_in options.now) text)) }
     ensures failure { IfErr result (λ failure. (text : List ℕ) × IfSome (R.remaining file.old) (λ told. text ≡ told)
         × TellsNotAll (rights_in options.now) text (W.contents out.old) (W.contents out.new) failure) }
 {
-    let tables = match all_tables(alloc, options, file) {
+    let tables = match all_tables(alloc, options, file, notes) {
         Ok(tables) => tables,
         Err(failure) => return Err(failure),
     };

@@ -9,6 +9,7 @@ use ll_rules::{Domain, Layer};
 use smallvec::SmallVec;
 use std::alloc::Global;
 use std::marker::Model;
+use std::mem::replace;
 
 /// For each layer of a domain, the oldest first, the rights that it grants on a chain of inodes. Contracts see the sets
 /// as numbers. Takes no memory.
@@ -97,14 +98,31 @@ impl Masks {
     pub fn copy(&self) -> Masks
         ensures { result ≡ self.now }
     {
-        let alloc = *self.sets.allocator();
         if self.sets.is_empty() {
-            return Masks::empty(alloc);
+            return Masks::empty(*self.sets.allocator());
         }
+        self.copy_layers()
+    }
+
+    // Returns a copy of the masks of some layers.
+    fn copy_layers(&self) -> Masks
+        ensures { result ≡ self.now }
+    {
+        let alloc = *self.sets.allocator();
         let Ok(sets) = SmallVec::from_slice(alloc, self.sets.as_slice()) else {
             unreachable!()
         };
         Masks { sets }
+    }
+
+    /// Takes the masks out, and leaves those of no layers.
+    #[inline(always)]
+    pub fn take(&mut self) -> Masks
+        ensures result { result ≡ self.old }
+        ensures left { self.new ≡ [] }
+    {
+        let none = Masks::empty(*self.sets.allocator());
+        replace(self, none)
     }
 
     /// Returns the number of layers.

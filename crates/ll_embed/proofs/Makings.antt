@@ -48,6 +48,6 @@ made_legally setup calls (replies_of.Answered replies) entries h =
     subst (IsLegal (start setup.rules setup.nodes)) (sym h.4)
     (legally setup (map call_line calls) [] (flat_map reply_line replies.items) h.1
     (inl (h.0, h.2, refl, lines_get_them h.0 h.1 calls replies.items h.3))).0
-made_legally setup calls (replies_of.Refused reply) entries h =
+made_legally setup calls (replies_of.Refused refusal) entries h =
     subst (IsLegal (start setup.rules setup.nodes)) (sym h.2)
-    (legally setup [] [] (reply_line reply) h.0 (inr (reply, h.1, refl, refl))).0
+    (legally setup [] [] (reply_line refusal.reply) h.0 (inr (refusal, h.1, refl, refl))).0

@@ -3,7 +3,7 @@ use Rattle.std.proofs.Common.{◌≡◌, ◌≢◌, ◌⊎◌, ℕ, zero, suc, �
 use Rattle.std.proofs.Common.{◌∷◌, ◌++◌, length, drop, get_or, Option, None, Some, Err, refl, sym, ap, subst, ◌∙◌}
 use Rattle.std.proofs.Common.{arith, inl, inr}
 use Rattle.std.proofs.lemmas.List.{append-nil, length-append}
-use Rattle.std.proofs.lemmas.Bool.{cases_lt}
+use Rattle.std.proofs.lemmas.Bool.{cases_lt, ne_eqb}
 use Rattle.std.specs.declared.alloc.Global.{Global}
 use Rattle.std.specs.declared.vec.Vec.{Vec}
 use Rattle.ll_rights.specs.declared.errno.Errno.{Errno}
@@ -26,17 +26,19 @@ use Rattle.ll_wire.proofs.Cuts.{kept, long}
 use Rattle.ll_wire.specs.Cutting.{Holds}
 use Rattle.ll_wire.specs.Grammar.{SpellsCommand}
 use Rattle.ll_wire.specs.Reads.{ReadsBy, holds_text}
-use Rattle.ll_embed.specs.Alone.{IsUnreadIn, coming_at, reply_at}
+use Rattle.ll_embed.specs.Alone.{IsUnreadIn}
 use Rattle.ll_session.specs.Beside.{placed}
 use Rattle.ll_session.specs.Counts.{counted, noted}
-use Rattle.ll_session.specs.Opening.{Coming, Comes, Loads, Makes, Opens, Stops, fresh, made, refused, unmade}
+use Rattle.ll_session.specs.Opening.{Coming, Comes, EndsOpening, Loads, Makes, Refuses, Stops, coming_at, fresh, made}
+use Rattle.ll_session.specs.Opening.{unconnected, unmade}
 use Rattle.ll_session.specs.PartySession.{Session, Called, Connects, answered, brought, following, full, joined, next}
 use Rattle.ll_session.specs.PartySession.{starved}
 use Rattle.ll_session.specs.Session.{Answers, as_written, bad, calls, unread}
 use Rattle.ll_session.specs.Strict.{IsEnd, is_of_layers}
 use Rattle.ll_session.specs.declared.score.Score.{Score}
-use Rattle.ll_embed.specs.declared.opening.Refusal.{Refusal}
-use Rattle.ll_embed.specs.declared.opening.Refusal.TheVariants.{AtCall, AtConnect}
+use Rattle.ll_session.specs.declared.refusal.Opener.{Opener}
+use Rattle.ll_session.specs.declared.refusal.Opener.TheVariants.{Loader, Profile}
+use Rattle.ll_session.specs.declared.refusal.Refusal.{Refusal}
 use Rattle.ll_session.specs.declared.setup.Setup.{Setup}
 use Rattle.ll_session.proofs.Comers.{connected_there}
 use Rattle.ll_session.proofs.Coming.{next_call}
@@ -390,21 +392,24 @@ module _ (client : ℕ) (first s mid : Session) (items yielded : List Call) (cal
       (told, mid, called, quiet, rest))
 
   pub stops_on : is_refusal told ≡ false
-      → ((reply : Reply) (t : Session) → Stops client s (drop (length yielded) items) reply t
-      → Stops client first items reply t)
-      → (reply : Reply) (t : Session) → Stops client mid (drop (length (yielded ++ call ∷ [])) items) reply t
-      → Stops client first items reply t
-  stops_on quiet so reply t rest = so reply t
-      (subst (λ (l : List Call). Stops client s l reply t) (sym (next_call items yielded call turn))
-      (told, mid, called, inr (quiet, rest)))
+      → ((number all : ℕ) (reply : Reply) (t : Session) → all ≡ length yielded + number
+      → Stops client s (drop (length yielded) items) number reply t → Stops client first items all reply t)
+      → (number all : ℕ) (reply : Reply) (t : Session) → all ≡ length (yielded ++ call ∷ []) + number
+      → Stops client mid (drop (length (yielded ++ call ∷ [])) items) number reply t
+      → Stops client first items all reply t
+  stops_on quiet so number all reply t e rest =
+      let more : length (yielded ++ call ∷ []) ≡ length yielded + 1 = length-append yielded (call ∷ []) in
+      so (number + 1) all reply t (omega (arith, e, more))
+      (subst (λ (l : List Call). Stops client s l (number + 1) reply t) (sym (next_call items yielded call turn))
+      (told, mid, called, inr (quiet, number, refl, rest)))
 
-  pub stops_here : is_refusal told ≡ true
-      → ((reply : Reply) (t : Session) → Stops client s (drop (length yielded) items) reply t
-      → Stops client first items reply t)
-      → Stops client first items told mid
-  stops_here loud so = so told mid
-      (subst (λ (l : List Call). Stops client s l told mid) (sym (next_call items yielded call turn))
-      (told, mid, called, inl (loud, refl, refl)))
+  pub stops_here : (all : ℕ) → all ≡ length yielded + 1 → is_refusal told ≡ true
+      → ((number all : ℕ) (reply : Reply) (t : Session) → all ≡ length yielded + number
+      → Stops client s (drop (length yielded) items) number reply t → Stops client first items all reply t)
+      → Stops client first items all told mid
+  stops_here all e loud so = so 1 all told mid e
+      (subst (λ (l : List Call). Stops client s l 1 told mid) (sym (next_call items yielded call turn))
+      (told, mid, called, inl (loud, refl, refl, refl)))
 
 -- ---- a client that comes and makes its calls
 
@@ -421,14 +426,17 @@ comes_made s after t client list c is makes = (
       (subst (λ (u : Session). Makes client u list t) c.2 makes),
 )
 
-pub comes_unmade : (s after t : Session) (client : ℕ) (list : List Call) (reply : Reply) → HasCome s after
-    → following s ≡ client → Stops client after list reply t → Comes s list (unmade reply t)
-comes_unmade s after t client list reply c is stops = (
-  c.0,
-  c.1,
-  subst (λ (n : ℕ). Stops n (joined s c.0) list reply t) (sym is)
-      (subst (λ (u : Session). Stops client u list reply t) c.2 stops),
-)
+pub comes_unmade : (s after t : Session) (client : ℕ) (list : List Call) (refusal : Refusal) → HasCome s after
+    → following s ≡ client → 1 ≤ refusal.calls → Stops client after list refusal.calls refusal.reply t
+    → Comes s list (coming_at refusal t)
+comes_unmade s after t client list refusal c is some stops = subst
+    (λ (b : Bool). Comes s list (cond b (unconnected refusal.reply t) (unmade refusal.calls refusal.reply t)))
+    (sym (ne_eqb refusal.calls 0 (λ e. omega (arith, e, some)))) (
+      c.0,
+      c.1,
+      subst (λ (n : ℕ). Stops n (joined s c.0) list refusal.calls refusal.reply t) (sym is)
+          (subst (λ (u : Session). Stops client u list refusal.calls refusal.reply t) c.2 stops),
+    )
 
 -- ---- an opening
 
@@ -450,8 +458,14 @@ after_loader tree log before loaded total s alone less many =
     (sym (ap (λ (n : ℕ). drop n (numbers_from (before + 1) total)) many ∙ after_first loaded (before + 1) total less
     ∙ ap (λ (k : ℕ). numbers_from k (total - loaded)) first))
 
-pub opens_refused : (setup : Setup) (loaded t : Session) (refusal : Refusal)
+-- the loader is refused, or the first client
+pub loader_refused : (setup : Setup) (t : Session) (refusal : Refusal) → refusal.opener ≡ Loader
+    → Loads (fresh setup) setup.loader (coming_at refusal t) → Refuses setup refusal t
+loader_refused setup t refusal who loads =
+    subst (λ (o : Opener). EndsOpening o setup (coming_at refusal t)) (sym who) loads
+
+pub profile_refused : (setup : Setup) (loaded t : Session) (refusal : Refusal) → refusal.opener ≡ Profile
     → Loads (fresh setup) setup.loader (made loaded) → Comes loaded setup.profile.items (coming_at refusal t)
-    → Opens setup (refused (reply_at refusal) t)
-opens_refused setup loaded t (AtConnect errno) loads comes = inr (loaded, loads, inl comes)
-opens_refused setup loaded t (AtCall reply) loads comes = inr (loaded, loads, inr comes)
+    → Refuses setup refusal t
+profile_refused setup loaded t refusal who loads comes =
+    subst (λ (o : Opener). EndsOpening o setup (coming_at refusal t)) (sym who) (loaded, loads, comes)

@@ -22,7 +22,7 @@ use Rattle.ll_embed.specs.declared.ask_fault.AskFault.TheVariants.{WrongForm, Wr
 pub no_setup : (o : ProfileOrder) (f : Failure) → Lacks (tree_asked o) o.policy f → LacksTree o (Tree (fault_at f))
 no_setup o failures.CommandLine lacks = inr lacks
 no_setup o (failures.Policy fault) lacks = lacks
-no_setup o failures.Opening lacks = absurd lacks
+no_setup o (failures.Opening refusal) lacks = absurd lacks
 no_setup o failures.File lacks = tt
 no_setup o failures.Output lacks = tt
 no_setup o failures.Socket lacks = tt
@@ -32,7 +32,7 @@ pub not_opened : (o : ProfileOrder) (setup : Setup) (f : Failure) → IsSetup (t
     → FailsSo (IsStopped setup) f → LacksTree o (Tree (fault_at f))
 not_opened o setup failures.CommandLine is fails = absurd fails
 not_opened o setup (failures.Policy fault) is fails = absurd fails
-not_opened o setup failures.Opening is fails = (setup, is, fails)
+not_opened o setup (failures.Opening refusal) is fails = (setup, refusal, is, fails)
 not_opened o setup failures.File is fails = tt
 not_opened o setup failures.Output is fails = tt
 not_opened o setup failures.Socket is fails = tt
@@ -58,7 +58,7 @@ module _ (o : ProfileOrder) (form : ℕ) (names : List ℕ) where
       → LacksRights o form names (fault_of_lines f WrongPath)
   no_paths failures.CommandLine is bad = bad refl
   no_paths (failures.Policy fault) is bad = absurd is
-  no_paths failures.Opening is bad = absurd is
+  no_paths (failures.Opening refusal) is bad = absurd is
   no_paths failures.File is bad = tt
   no_paths failures.Output is bad = tt
   no_paths failures.Socket is bad = tt
@@ -77,7 +77,7 @@ module _ (o : ProfileOrder) (commands : List ℕ) where
       → LacksWhy o commands (fault_of_lines f WrongCommand)
   no_command failures.CommandLine is bad = bad refl
   no_command (failures.Policy fault) is bad = absurd is
-  no_command failures.Opening is bad = absurd is
+  no_command (failures.Opening refusal) is bad = absurd is
   no_command failures.File is bad = tt
   no_command failures.Output is bad = tt
   no_command failures.Socket is bad = tt

@@ -12,7 +12,7 @@ use Rattle.ll_embed.specs.declared.fault.Fault.TheVariants as faults
 
 pub run_fails : (o : Order) (setup : Setup) (fault : RunFault) → IsSetup o setup → runs.MayEnd setup fault
     → (fault ≡ Session TooLong → most_reads ≤ length o.script) → MayFail o (fault_in fault)
-run_fails o setup Opening is may long = (setup, is, may)
+run_fails o setup (Opening refusal) is may long = (setup, refusal, is, may)
 run_fails o setup (Session Read) is may long = tt
 run_fails o setup (Session Write) is may long = tt
 run_fails o setup (Session NoMemory) is may long = tt

@@ -62,9 +62,9 @@ runs_legally true setup input left text (Some (AtLine line reply)) entries h =
     subst (IsLegal (start setup.rules setup.nodes)) (sym h.2)
     (legally setup h.1.1 [] text h.0
     (inl (h.1.0, h.1.3, refl, strict_lines (h.1.0, None) (h.0, Some reply) h.1.1 text h.1.6))).0
-runs_legally true setup input left text (Some (AtOpening reply)) entries h =
+runs_legally true setup input left text (Some (AtOpening refusal)) entries h =
     subst (IsLegal (start setup.rules setup.nodes)) (sym h.2)
-    (legally setup [] [] text h.0 (inr (reply, h.1.0, refl, h.1.1))).0
+    (legally setup [] [] text h.0 (inr (refusal, h.1.0, refl, h.1.1))).0
 
 -- ---- what is written is a text
 

@@ -5,14 +5,7 @@ use Rattle.ll_rights.specs.declared.errno.Errno.{Errno}
 use Rattle.ll_rights.specs.declared.errno.Errno.TheVariants.{HistoryFull, NoMemory}
 use Rattle.ll_seq.specs.declared.reply.Entry.{Entry}
 use Rattle.ll_seq.specs.Stages.{numbers_from}
-use Rattle.ll_seq.specs.declared.reply.Reply.{Reply}
-use Rattle.ll_seq.specs.declared.reply.Reply.TheVariants.{Refused}
-use Rattle.ll_embed.specs.declared.opening.Refusal.{Refusal}
-use Rattle.ll_embed.specs.declared.opening.Refusal.TheVariants.{AtCall, AtConnect}
-use Rattle.ll_embed.specs.declared.opening.Shut.{Shut}
-use Rattle.ll_embed.specs.declared.opening.Shut.TheVariants as shut
 use Rattle.ll_session.specs.Counts.{StaysAs}
-use Rattle.ll_session.specs.Opening.{Coming, Opening, refused, stopped, unconnected, unmade}
 use Rattle.ll_session.specs.PartySession.{Session}
 use Rattle.ll_session.specs.Run.{RunsAs}
 use Rattle.ll_embed.specs.declared.own_tree.OwnTree.{OwnTree}
@@ -35,21 +28,6 @@ own t = record {
   entries = t.history.entries;
   limit = t.history.limit;
 }
-
--- the reply that kept a client from its calls
-abbrev pub reply_at : Refusal → Reply
-reply_at (AtConnect errno) = Refused errno
-reply_at (AtCall reply) = reply
-
--- how the arrival of a client ends that this refusal keeps from its calls
-abbrev pub coming_at : Refusal → Session → Coming
-coming_at (AtConnect errno) t = unconnected (Refused errno) t
-coming_at (AtCall reply) t = unmade reply t
-
--- how an opening ends that is refused like this
-abbrev pub opening_at : Shut → Session → Opening
-opening_at (shut.Refused reply) t = refused reply t
-opening_at shut.Stopped t = stopped
 
 -- how a line is refused that wasn't read for this reason: HistoryFull comes before NoMemory
 abbrev pub IsUnreadIn : Session → (errno told : Errno) → Type 0

@@ -29,6 +29,7 @@ use Rattle.ll_program.specs.declared.failure.Failure.TheVariants as failures
 use Rattle.ll_session.specs.Run.{MayEnd}
 use Rattle.ll_session.specs.declared.fault.RunFault.{RunFault}
 use Rattle.ll_session.specs.declared.fault.RunFault.TheVariants as run
+use Rattle.ll_session.specs.declared.refusal.Refusal.{Refusal}
 use Rattle.ll_wire.specs.declared.fault.SessionFault.TheVariants as session
 use Rattle.ll_session.specs.declared.setup.Setup.{Setup}
 use Rattle.ll_session.specs.declared.stop.Stop.{Stop}
@@ -142,7 +143,7 @@ status_of NoMemory = 4
 
 -- what a fault of a run is here. A text of memory can't be read or written only if memory runs out
 abbrev pub fault_in : RunFault → Fault
-fault_in run.Opening = Opening
+fault_in (run.Opening refusal) = Opening
 fault_in (run.Session session.TooLong) = TooLong
 fault_in (run.Session fault) = NoMemory
 
@@ -150,7 +151,7 @@ fault_in (run.Session fault) = NoMemory
 abbrev pub fault_at : Failure → Fault
 fault_at failures.CommandLine = NoProfile
 fault_at (failures.Policy fault) = Policy fault
-fault_at failures.Opening = Opening
+fault_at (failures.Opening refusal) = Opening
 fault_at failures.File = NoMemory
 fault_at failures.Output = NoMemory
 fault_at failures.Socket = NoMemory
@@ -161,7 +162,8 @@ abbrev pub MayFail : Order → Fault → Type 0
 MayFail o Misfit = Fits o → ⊥
 MayFail o (Policy fault) = (o.policy ≡ [] → ⊥) × IsFaultOf o.policy fault
 MayFail o NoProfile = HasNoProfile o
-MayFail o Opening = (setup : Setup) × IsSetup o setup × MayEnd setup run.Opening
+MayFail o Opening =
+    (setup : Setup) × (refusal : Refusal) × IsSetup o setup × MayEnd setup (run.Opening refusal)
 MayFail o NoEntry = ⊥
 MayFail o OwnPolicy = ⊥
 MayFail o TooLong = most_reads ≤ length o.script

@@ -11,6 +11,7 @@ use Rattle.ll_program.specs.declared.failure.Failure.{Failure}
 use Rattle.ll_program.specs.declared.failure.Failure.TheVariants as failures
 use Rattle.ll_program.specs.declared.report.AnswerForm.{AnswerForm}
 use Rattle.ll_program.specs.declared.report.AnswerForm.TheVariants.{Json}
+use Rattle.ll_session.specs.declared.refusal.Refusal.{Refusal}
 use Rattle.ll_session.specs.declared.setup.Setup.{Setup}
 use Rattle.ll_commands.specs.Opening.{IsStopped}
 use Rattle.ll_commands.specs.Rights.{IsTable}
@@ -55,7 +56,8 @@ LacksTree o ProfileMissing = o.profile ≡ []
 LacksTree o (Tree faults.Misfit) = 1 ≤ o.nodes → o.nodes ≤ TREE_NODES → ⊥
 LacksTree o (Tree faults.NoProfile) = (IsUtf8 o.profile → ⊥) ⊎ Lacks (tree_asked o) o.policy failures.CommandLine
 LacksTree o (Tree (faults.Policy fault)) = Lacks (tree_asked o) o.policy (failures.Policy fault)
-LacksTree o (Tree faults.Opening) = (setup : Setup) × IsSetup (tree_asked o) o.policy setup × IsStopped setup
+LacksTree o (Tree faults.Opening) =
+    (setup : Setup) × (refusal : Refusal) × IsSetup (tree_asked o) o.policy setup × IsStopped setup refusal
 LacksTree o (Tree faults.NoMemory) = ⊤
 LacksTree o fault = ⊥
 

@@ -60,7 +60,7 @@ pub fn fault_of(fault: RunFault) -> Fault
     ensures { result ≡ fault_in fault }
 {
     match fault {
-        RunFault::Opening => Fault::Opening,
+        RunFault::Opening(_) => Fault::Opening,
         RunFault::Session(SessionFault::TooLong) => Fault::TooLong,
         RunFault::Session(_) => Fault::NoMemory,
     }
@@ -73,7 +73,7 @@ pub fn fault_at(failure: Failure) -> Fault
     match failure {
         Failure::CommandLine => Fault::NoProfile,
         Failure::Policy(fault) => Fault::Policy(fault),
-        Failure::Opening => Fault::Opening,
+        Failure::Opening(_) => Fault::Opening,
         Failure::File | Failure::Output | Failure::Socket | Failure::NoMemory => Fault::NoMemory,
     }
 }

@@ -151,18 +151,9 @@ impl<'a> CheckGiven<'a> {
         if self.nodes < 1 || self.nodes > TREE_NODES || self.form > 5 {
             return Err(Fault::Misfit);
         }
-        let level = match level_of(self.level) {
-            Ok(level) => level,
-            Err(fault) => return Err(fault),
-        };
-        let profile = match text_of(self.profile) {
-            Ok(profile) => profile,
-            Err(fault) => return Err(fault),
-        };
-        let name = match text_of(self.name) {
-            Ok(name) => name,
-            Err(fault) => return Err(fault),
-        };
+        let level = level_of(self.level)?;
+        let profile = text_of(self.profile)?;
+        let name = text_of(self.name)?;
         let Ok(files) = Vec::from_slice(alloc, &[name]) else {
             return Err(Fault::NoMemory);
         };

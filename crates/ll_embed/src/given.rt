@@ -139,14 +139,8 @@ impl Given<'_> {
             × IsByPlan (order_in self.now) plan setup) }
         ensures fault { IfErr result (MayFail (order_in self.now)) }
     {
-        let policy = match policy_of(alloc, self.policy) {
-            Ok(policy) => policy,
-            Err(fault) => return Err(fault),
-        };
-        let profile = match self.profile_calls(alloc, &policy) {
-            Ok(calls) => calls,
-            Err(fault) => return Err(fault),
-        };
+        let policy = policy_of(alloc, self.policy)?;
+        let profile = self.profile_calls(alloc, &policy)?;
         let Ok(opening) = policy.opening(alloc) else {
             return Err(Fault::NoMemory);
         };
@@ -193,10 +187,8 @@ impl Given<'_> {
             return Err(Fault::Misfit);
         }
         if self.policy.is_empty() {
-            return match self.level_alone() {
-                Ok(abi) => Ok(self.bare(alloc, abi)),
-                Err(fault) => Err(fault),
-            };
+            let abi = self.level_alone()?;
+            return Ok(self.bare(alloc, abi));
         }
         if self.level != 0 {
             return Err(Fault::Misfit);

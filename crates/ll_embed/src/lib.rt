@@ -12,12 +12,10 @@ mod granted;
 mod history;
 mod learned_profile;
 mod lines;
-mod opening;
 mod own_runner;
 mod own_tree;
 mod replies;
 mod run;
-mod strict;
 mod text_run;
 
 ghost use Rattle.std.specs.Prelude.{◌≡◌};

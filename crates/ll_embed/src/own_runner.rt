@@ -5,7 +5,6 @@ ghost use Rattle.ll_session.specs.CallsRun.{Makes, Replied};
 ghost use Rattle.ll_session.specs.Run.{MayEnd};
 ghost use Rattle.ll_embed.specs.Alone.{own};
 
-use crate::opening::Shut;
 use crate::own_tree::OwnTree;
 use ll_check::Runner;
 use ll_seq::{History, Reply};
@@ -47,10 +46,12 @@ fn make_alone(
             Ok(replies) => Ok((CallReplies::Answered(replies), tree.into_history())),
             Err(_) => Err(RunFault::Session(SessionFault::NoMemory)),
         },
-        Err(shut) => match shut {
-            Shut::Refused(reply) => Ok((CallReplies::Refused(reply), tree.into_history())),
-            Shut::Stopped => Err(RunFault::Opening),
-        },
+        Err(refusal) => {
+            if !refusal.is_told() {
+                return Err(RunFault::Opening(refusal));
+            }
+            Ok((CallReplies::Refused(refusal), tree.into_history()))
+        }
     }
 }
 

@@ -9,14 +9,13 @@ ghost use Rattle.ll_seq.specs.History.{is_connect};
 ghost use Rattle.ll_seq.specs.Memory.{holds_memory};
 ghost use Rattle.ll_seq.specs.declared.reply.Reply.{Reply};
 ghost use Rattle.ll_session.specs.PartySession.{Session};
+ghost use Rattle.ll_session.specs.declared.refusal.Opener.{Opener};
 
-use crate::opening::{Refusal, Shut};
 use crate::replies::{count_brought, is_refused, placed};
-use crate::strict::{ends_strictly, is_of_layers};
 use ll_plain::Plain;
 use ll_rights::Errno;
 use ll_seq::{Call, Entry, History, Reply};
-use ll_session::{ClientCall, Setup};
+use ll_session::{ClientCall, Opener, Refusal, Setup, ends_strictly, is_of_layers};
 use ll_wire::{Line, is_spelled, read_command};
 use std::alloc::{AllocError, Global};
 
@@ -38,9 +37,10 @@ pub struct OwnTree {
 }
 
 impl OwnTree {
-    ghost use Rattle.ll_embed.specs.Alone.{IsUnreadIn, coming_at, opening_at, own};
+    ghost use Rattle.ll_embed.specs.Alone.{IsUnreadIn, own};
     ghost use Rattle.ll_session.specs.CallsRun.{call_line};
-    ghost use Rattle.ll_session.specs.Opening.{Comes, Loads, Makes, Opens, Stops, begun, fresh, made};
+    ghost use Rattle.ll_session.specs.Opening.{Comes, Loads, Makes, Opens, Refuses, Stops, begun, coming_at, fresh};
+    ghost use Rattle.ll_session.specs.Opening.{made};
     ghost use Rattle.ll_session.specs.PartySession.{Called, Connects, joined};
     ghost use Rattle.ll_session.specs.Session.{Answers, AreOthers};
     ghost use Rattle.ll_session.specs.Strict.{IsEnd};
@@ -145,32 +145,44 @@ impl OwnTree {
         Ok(())
     }
 
-    // Makes the calls of the client in turn. Errors: the reply to the first that is refused or denied.
-    fn make(&mut self, client: u64, calls: Vec<Call>) -> Result<(), Reply>
+    // Makes the calls of the client in turn. Errors: the first that is refused or denied.
+    fn make(&mut self, client: u64, opener: Opener, calls: Vec<Call>) -> Result<(), Refusal>
         requires alone { self.old.before ≡ 0 }
         requires first { 1 ≤ client }
         requires last { client ≤ self.old.clients }
         requires others { AreOthers calls.items }
         ensures ok { OnOk result (Makes client (own self.old) calls.items (own self.new)) }
-        ensures err { IfErr result (λ reply. Stops client (own self.old) calls.items reply (own self.new)) }
+        ensures err { IfErr result (λ refusal.
+            Stops client (own self.old) calls.items refusal.calls refusal.reply (own self.new)) }
+        ensures opener { IfErr result (λ refusal. refusal.opener ≡ opener) }
+        ensures some { IfErr result (λ refusal. 1 ≤ refusal.calls) }
         ensures alone { self.new.before ≡ 0 }
         ensures clients { self.old.clients ≤ self.new.clients }
     {
+        let mut made = 0;
         for call in calls {
+            made += 1;
             match self.make_one(client, call) {
                 Ok(()) => {}
-                Err(reply) => return Err(reply),
+                Err(reply) => {
+                    return Err(Refusal {
+                        opener,
+                        calls: made,
+                        reply,
+                    });
+                }
             }
         }
         Ok(())
     }
 
     // Adds the next client, which makes these calls.
-    fn bring(&mut self, calls: Vec<Call>) -> Result<(), Refusal>
+    fn bring(&mut self, opener: Opener, calls: Vec<Call>) -> Result<(), Refusal>
         requires alone { self.old.before ≡ 0 }
         requires others { AreOthers calls.items }
         ensures ok { OnOk result (Comes (own self.old) calls.items (made (own self.new))) }
         ensures err { IfErr result (λ refusal. Comes (own self.old) calls.items (coming_at refusal (own self.new))) }
+        ensures opener { IfErr result (λ refusal. refusal.opener ≡ opener) }
         ensures alone { self.new.before ≡ 0 }
         ensures clients { OnOk result (self.old.clients < self.new.clients) }
     {
@@ -179,13 +191,10 @@ impl OwnTree {
             Ok(()) => {}
             Err(errno) => {
                 drop(calls);
-                return Err(Refusal::AtConnect(errno));
+                return Err(Refusal::at_connect(opener, errno));
             }
         }
-        match self.make(client, calls) {
-            Ok(()) => Ok(()),
-            Err(reply) => Err(Refusal::AtCall(reply)),
-        }
+        self.make(client, opener, calls)
     }
 
     // Adds the loader, if there is one, which makes its calls.
@@ -194,39 +203,36 @@ impl OwnTree {
         requires others { IfSome loader (λ calls. AreOthers calls.items) }
         ensures ok { OnOk result (Loads (own self.old) loader (made (own self.new))) }
         ensures err { IfErr result (λ refusal. Loads (own self.old) loader (coming_at refusal (own self.new))) }
+        ensures opener { IfErr result (λ refusal. refusal.opener ≡ Opener.Loader) }
         ensures alone { self.new.before ≡ 0 }
     {
         match loader {
-            Some(calls) => self.bring(calls),
+            Some(calls) => self.bring(Opener::Loader, calls),
             None => Ok(()),
         }
     }
 
-    /// Adds to a new tree the loader, if there is one, and then the first client of the session. Errors: why no session
-    /// begins.
-    pub fn open(&mut self, setup: Setup) -> Result<(), Shut>
+    /// Adds to a new tree the loader, if there is one, and then the first client of the session. Errors: a connect or
+    /// a call of one of them is refused, so that no session begins.
+    pub fn open(&mut self, setup: Setup) -> Result<(), Refusal>
         requires fresh { own self.old ≡ fresh setup }
         requires alone { self.old.before ≡ 0 }
         ensures ok { OnOk result (Opens setup (begun (own self.new))) }
-        ensures err { IfErr result (λ shut. Opens setup (opening_at shut (own self.new))) }
+        ensures err { IfErr result (λ refusal. Refuses setup refusal (own self.new)) }
         ensures some { OnOk result (1 ≤ self.new.clients) }
     {
         match self.load(setup.loader) {
             Ok(()) => {}
-            Err(Refusal::AtConnect(errno)) => return Err(Shut::Refused(Reply::Refused(errno))),
-            Err(Refusal::AtCall(reply)) => {
-                drop(reply);
-                return Err(Shut::Stopped);
-            }
+            Err(refusal) => return Err(refusal),
         }
         let loaded = self.clients;
-        match self.bring(setup.profile) {
+        match self.bring(Opener::Profile, setup.profile) {
             Ok(()) => {
                 self.before = loaded;
                 self.clients -= loaded;
                 Ok(())
             }
-            Err(refusal) => Err(Shut::Refused(refusal.reply())),
+            Err(refusal) => Err(refusal),
         }
     }
 

@@ -17,9 +17,7 @@ ghost use Rattle.ll_session.specs.Strict.{ScoresTo};
 ghost use Rattle.ll_session.specs.declared.fault.RunFault.{RunFault};
 ghost use Rattle.ll_session.specs.declared.score.Score.{Score};
 
-use crate::opening::Shut;
 use crate::own_tree::OwnTree;
-use crate::strict::at_opening;
 use ll_seq::Reply;
 use ll_session::{Run, RunFault, Score, Setup, are_entries, reply_line, write_reply};
 use ll_wire::{Answers, Ends, Line, Pair, SessionFault, answer_lines};
@@ -116,6 +114,7 @@ fn run_session<E: Ends>(
         Ok(()) => Ok(Run {
             history: tree.into_history(),
             stop: score.into_stop(),
+            refusal: None,
         }),
         Err(fault) => {
             drop(tree);
@@ -149,15 +148,13 @@ fn run_over<E: Ends>(
     };
     match tree.open(setup) {
         Ok(()) => Ok(run_session(alloc, tree, is_strict, ends)?),
-        Err(Shut::Refused(reply)) => {
-            write_reply(alloc, &reply, ends)?;
-            let stop = at_opening(is_strict, reply);
-            let history = tree.into_history();
-            Ok(Run { history, stop })
-        }
-        Err(Shut::Stopped) => {
-            drop(tree);
-            Err(RunFault::Opening)
+        Err(refusal) => {
+            if !refusal.is_told() {
+                drop(tree);
+                return Err(RunFault::Opening(refusal));
+            }
+            write_reply(alloc, &refusal.reply, ends)?;
+            Ok(Run::refused(tree.into_history(), is_strict, refusal))
         }
     }
 }

@@ -387,14 +387,18 @@ impl Seat {
         match self.stage {
             Stage::Split => Ended {
                 call,
-                first: self.first.masks.copy(),
-                second: self.second.masks.copy(),
+                first: self.first.masks.take(),
+                second: self.second.masks.take(),
             },
-            _ => Ended {
-                call,
-                first: self.trunk.masks.copy(),
-                second: self.trunk.masks.copy(),
-            },
+            _ => {
+                let first = self.trunk.masks.copy();
+                let second = self.trunk.masks.take();
+                Ended {
+                    call,
+                    first,
+                    second,
+                }
+            }
         }
     }
 

@@ -87,17 +87,6 @@ impl Site {
     }
 }
 
-// Returns a copy of the text as a word.
-fn word_of(alloc: Global, text: &str) -> Result<Word, AllocError>
-    requires { IsWord text.now }
-    ensures { IfOk result (λ word. word ≡ text.now) }
-{
-    match Word::new(String::from_str(alloc, text)?) {
-        Ok(word) => Ok(word),
-        Err(_) => unreachable!(),
-    }
-}
-
 // Returns the path that the text spells, if any.
 fn path_of(text: String) -> Option<Path>
     ensures some { IfSome result (λ path. path ≡ path_of_text (string_bytes text)) }
@@ -167,7 +156,7 @@ fn names_in(
     ensures same { OnOk result (tree.new ≡ tree.old) }
     ensures names { IfOk result (λ names. names ≡ names_in tree.old (inode_of tree.old path.now)) }
 {
-    let call = Call::ReadDir(Target::read(word_of(alloc, path.as_str())?));
+    let call = Call::ReadDir(Target::read(Word::from_text(alloc, path.as_str())?));
     let reply = tree.apply(client, &call, client);
     drop(call);
     match reply {

@@ -1,12 +1,13 @@
 //! The path arguments of calls.
 
-ghost use Rattle.std.specs.Prelude.{◌≡◌, Some, slice_get};
+ghost use Rattle.std.specs.Prelude.{◌≡◌, IfOk, Some, slice_get};
 ghost use Rattle.ll_path.specs.Path.{path_refusals};
 ghost use Rattle.ll_path.specs.Word.{IsWord};
 
 use crate::path::Path;
 use crate::word::Word;
 use ll_rights::Errno;
+use std::alloc::{AllocError, Global};
 
 /// A word that is no valid path, and why.
 #[derive(Drop)]
@@ -35,6 +36,14 @@ impl Target {
             Ok(path) => Target::Good(path),
             Err((word, errno)) => Target::Bad(BadPath { word, errno }),
         }
+    }
+
+    /// Returns a copy. Errors: memory ran out.
+    pub fn copy(&self, alloc: Global) -> Result<Target, AllocError>
+        ensures { IfOk result (λ copy. copy ≡ self.now) }
+    {
+        let word = Word::from_text(alloc, self.as_str())?;
+        Ok(Target::read(word))
     }
 
     /// Returns the argument's text.

@@ -3,6 +3,7 @@
 ghost use Rattle.std.specs.Prelude.{◌≡◌, ℕ, List, All, IfOk, IfErr, IsTrue, ◌↔◌, string_bytes};
 ghost use Rattle.ll_path.specs.Word.{IsVisible, IsWord};
 
+use std::alloc::{AllocError, Global};
 use std::marker::Model;
 
 /// A word of a command line: 1 to 8,000 bytes from 0x21 to 0x7E (printable ASCII without the space). Contracts see its
@@ -44,6 +45,16 @@ impl Word {
         } else {
             Err(text)
         }
+    }
+
+    /// Copies a text that is a valid word. Errors: memory ran out.
+    pub fn from_text(alloc: Global, text: &str) -> Result<Word, AllocError>
+        requires { IsWord text.now }
+        ensures { IfOk result (λ word. word ≡ text.now) }
+    {
+        Ok(Word {
+            text: String::from_str(alloc, text)?,
+        })
     }
 
     pub fn as_str(&self) -> &str

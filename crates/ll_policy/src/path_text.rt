@@ -39,10 +39,7 @@ impl PathText {
         if !Word::fits(text) {
             return Err(PolicyFault::BadPath);
         }
-        let Ok(word) = Word::new(String::from_str(alloc, text)?) else {
-            unreachable!()
-        };
-        match Path::parse(word) {
+        match Path::parse(Word::from_text(alloc, text)?) {
             Ok(path) => Ok(PathText { path }),
             Err(_) => Err(PolicyFault::BadPath),
         }
@@ -60,9 +57,6 @@ impl PathText {
     pub(crate) fn target(&self, alloc: Global) -> Result<Target, AllocError>
         ensures { IfOk result (λ target. target ≡ path_to self.now) }
     {
-        match Word::new(String::from_str(alloc, self.path.as_str())?) {
-            Ok(word) => Ok(Target::read(word)),
-            Err(_) => unreachable!(),
-        }
+        Ok(Target::read(Word::from_text(alloc, self.path.as_str())?))
     }
 }

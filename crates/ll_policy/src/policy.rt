@@ -121,10 +121,8 @@ impl Policy {
         ensures fault { IfErr result (λ fault. (fault ≡ NoMemory)
             ⊎ (slice_get (document_faults (parse_document text.now)) 0 ≡ Some fault)) }
     {
-        match read_document(alloc, text) {
-            Ok(table) => Policy::read(alloc, &table),
-            Err(fault) => Err(fault),
-        }
+        let table = read_document(alloc, text)?;
+        Policy::read(alloc, &table)
     }
 
     /// Returns the ABI level of the policy's tree.

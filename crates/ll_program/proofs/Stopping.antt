@@ -1,19 +1,21 @@
 -- Runs that were performed.
 use Rattle.std.proofs.Common.{◌≡◌, ◌∙◌, ap, inl, inr, Bool, true, false, List, ℕ, Option, Some, None, Result, Ok, Err}
-use Rattle.std.proofs.Common.{subst}
+use Rattle.std.proofs.Common.{refl, subst, sym}
 use Rattle.std.specs.Prelude.{◌⊎◌, IfErr, IfOk, IfSome, option_map}
 use Rattle.ll_wire.specs.Devices.{Devices}
 use Rattle.ll_wire.specs.Transcript.{Writes}
 use Rattle.ll_seq.specs.declared.reply.Entry.{Entry}
-use Rattle.ll_session.specs.Run.{EndsBy, MayEnd, RunsAs}
+use Rattle.ll_session.specs.Run.{EndsBy, IsOpened, MayEnd, RunsAs, refusal_in}
 use Rattle.ll_session.specs.declared.fault.RunFault.{RunFault}
+use Rattle.ll_session.specs.declared.refusal.Refusal.{Refusal}
 use Rattle.ll_session.specs.declared.stop.Stop.{Stop}
+use Rattle.ll_session.specs.declared.stop.Stop.TheVariants.{AtLine, AtOpening}
 use Rattle.ll_program.specs.Failure.{failure_of}
 use Rattle.ll_session.specs.declared.setup.Setup.{Setup}
 use Rattle.ll_program.specs.declared.failure.Failure.{Failure}
-use Rattle.ll_program.specs.Policy.{HasBegun, HasBegunAs, HasRun, HasRunAs, IsSetup, IsUnread, MayFail}
+use Rattle.ll_program.specs.Policy.{HasBegun, HasBegunAs, HasOpened, HasRun, HasRunAs, IsSetup, IsUnread, MayFail}
 use Rattle.ll_program.specs.Comments.{spoken_numbers, spoken_text, stop_there}
-use Rattle.ll_program.specs.Options.{RunOrder, tree_of}
+use Rattle.ll_program.specs.Options.{RunOrder, TreeOrder, tree_of}
 use Rattle.ll_program.specs.declared.failure.Failure.TheVariants.{File, NoMemory}
 
 -- what a run that was performed reads and writes, told of the same devices
@@ -88,6 +90,44 @@ begun_spoken false strict setup script out out' fault text told e known t h = ab
 begun_spoken true strict setup None out out' fault text told e known t h = tt
 begun_spoken true strict setup (Some bytes) out out' fault text told e known t h =
     subst (λ (x : List ℕ). HasBegun strict setup (Some x) out out' fault) (t ∙ ap spoken_text known) h
+
+-- ---- openings
+
+-- how the opening of a run that was performed was refused, told of the same devices
+pub opened_there : {T E : Type 0} (r : Result T E) (setup : Setup) (refusal : T → Option Refusal)
+    (entries : T → List Entry) (old new new' : Option (List ℕ)) → new ≡ new'
+    → IfOk r (λ it. IsOpened setup old new (refusal it) (entries it))
+    → IfOk r (λ it. IsOpened setup old new' (refusal it) (entries it))
+opened_there r setup refusal entries old new new' wrote =
+    subst (λ (n : Option (List ℕ)). IfOk r (λ it. IsOpened setup old n (refusal it) (entries it))) wrote
+
+-- no comment changes it
+refused_still : (numbers : List ℕ) (there : Option Stop) (told : Option Refusal)
+    → refusal_in (option_map (stop_there numbers) there) told ≡ refusal_in there told
+refused_still numbers None told = refl
+refused_still numbers (Some (AtLine line reply)) told = refl
+refused_still numbers (Some (AtOpening refusal)) told = refl
+
+pub opened_spoken : (setup : Setup) (old new : Option (List ℕ)) (there stop : Option Stop) (told again : Option Refusal)
+    (entries left : List Entry) (numbers : List ℕ) → stop ≡ option_map (stop_there numbers) there → again ≡ told
+    → left ≡ entries → IsOpened setup old new (refusal_in there told) entries
+    → IsOpened setup old new (refusal_in stop again) left
+opened_spoken setup old new there stop told again entries left numbers so same all =
+    λ h. subst (λ (es : List Entry). IsOpened setup old new (refusal_in stop again) es) (sym all)
+    (subst (λ (o : Option Refusal). IsOpened setup old new o entries)
+    (sym (ap (λ (o : Option Stop). refusal_in o again) so
+    ∙ ap (refusal_in (option_map (stop_there numbers) there)) same ∙ refused_still numbers there told)) h)
+
+-- and it is that of the run that is asked for
+pub has_opened : (order : RunOrder) (tree : TreeOrder) (text : List ℕ) (setup : Setup) (out out' : Option (List ℕ))
+    (found refusal : Option Refusal) (entries : List Entry) → tree ≡ tree_of order → IsSetup tree text setup
+    → found ≡ refusal → IsOpened setup out out' refusal entries → HasOpened order text out out' found
+has_opened order tree text setup out out' found refusal entries same set is h = (
+  setup,
+  entries,
+  subst (λ (o : TreeOrder). IsSetup o text setup) same set,
+  subst (λ (o : Option Refusal). IsOpened setup out out' o entries) (sym is) h,
+)
 
 -- a script with comments can't be read
 pub unread_spoken : (comments : Bool) (failure : Failure) → comments ≡ true → (failure ≡ File) ⊎ (failure ≡ NoMemory)

@@ -49,4 +49,4 @@ line_there numbers line = unwrap_or (slice_get numbers (line - 1)) line
 -- what ended the run of those lines, as it is told of the script
 abbrev pub stop_there : (numbers : List ℕ) → Stop → Stop
 stop_there numbers (AtLine line reply) = AtLine (line_there numbers line) reply
-stop_there numbers (AtOpening reply) = AtOpening reply
+stop_there numbers (AtOpening refusal) = AtOpening refusal

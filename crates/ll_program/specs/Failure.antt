@@ -38,7 +38,7 @@ failure_in_session session.NoMemory = NoMemory
 failure_in_session session.TooLong = File
 
 abbrev pub failure_of : RunFault → Failure
-failure_of run.Opening = Opening
+failure_of (run.Opening refusal) = Opening refusal
 failure_of (run.Session fault) = failure_in_session fault
 
 abbrev pub failure_in : PolicyFault → Failure
@@ -48,7 +48,7 @@ failure_in fault = Policy fault
 abbrev pub status_of : Failure → ℕ
 status_of CommandLine = 2
 status_of (Policy fault) = 2
-status_of Opening = 2
+status_of (Opening refusal) = 2
 status_of File = 1
 status_of Output = 1
 status_of Socket = 1
@@ -91,7 +91,7 @@ status_at (Err failure) = status_of failure
 abbrev pub line_of : Failure → Option (List ℕ)
 line_of CommandLine = Some (codes "landtree: command line")
 line_of (Policy fault) = None
-line_of Opening = Some (codes "landtree: opening call refused")
+line_of (Opening refusal) = Some (codes "landtree: opening call refused")
 line_of File = Some (codes "landtree: file")
 line_of Output = Some (codes "landtree: output")
 line_of Socket = Some (codes "landtree: socket")
@@ -110,7 +110,7 @@ place_line file line answer = file ++ (codes ":" ++ decimal line ++ codes ": ") 
 -- where a strict run of this script ended, and the line of the reply
 abbrev pub stop_line : List ℕ → Stop → List ℕ
 stop_line script (AtLine line reply) = place_line script line (reply_line reply)
-stop_line script (AtOpening reply) = script ++ codes ": before line 1: " ++ reply_line reply
+stop_line script (AtOpening refusal) = script ++ codes ": before line 1: " ++ reply_line refusal.reply
 
 -- saving a history, or drawing a picture, fails by its file or by memory
 abbrev pub IsOfSaving : Failure → Type 0
@@ -130,7 +130,7 @@ IsOfDevices failure = ⊥
 abbrev pub FailsAudit : Option (List ℕ) → (out out' : Option (List ℕ)) → Failure → Type 0
 FailsAudit text out out' CommandLine = ⊥
 FailsAudit text out out' (Policy fault) = ⊥
-FailsAudit text out out' Opening = ⊥
+FailsAudit text out out' (Opening refusal) = ⊥
 FailsAudit text out out' File = out' ≡ out
 FailsAudit text out out' Output =
     (verdict : Verdict) × IfSome text (λ bytes. Judges (pieces bytes) verdict)
@@ -158,7 +158,7 @@ IsOfBeginning file failure = ⊥
 abbrev pub IsOfExport : Failure → Type 0
 IsOfExport CommandLine = ⊤
 IsOfExport (Policy fault) = ⊤
-IsOfExport Opening = ⊥
+IsOfExport (Opening refusal) = ⊥
 IsOfExport File = ⊤
 IsOfExport Output = ⊤
 IsOfExport Socket = ⊥

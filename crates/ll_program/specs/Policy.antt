@@ -17,6 +17,7 @@ use Rattle.ll_program.specs.declared.failure.Failure.{Failure}
 use Rattle.ll_program.specs.declared.failure.Failure.TheVariants.{CommandLine, Policy, Opening, File, Output, Socket}
 use Rattle.ll_program.specs.declared.failure.Failure.TheVariants.{NoMemory}
 use Rattle.ll_session.specs.declared.fault.RunFault.{RunFault}
+use Rattle.ll_session.specs.declared.refusal.Refusal.{Refusal}
 use Rattle.ll_session.specs.declared.setup.Setup.{Setup}
 use Rattle.ll_session.specs.declared.stop.Stop.{Stop}
 use Rattle.ll_program.specs.declared.conclusion.Conclusion.{Conclusion}
@@ -25,7 +26,7 @@ use Rattle.ll_program.specs.Failure.{failure_of, IsOfBeginning, IsOfSaving, stop
 use Rattle.ll_program.specs.Sources.{named, text_in}
 use Rattle.ll_wire.specs.declared.header.Header.{Header}
 use Rattle.ll_wire.specs.declared.header.Version.TheVariants.{Three}
-use Rattle.ll_session.specs.Run.{BeginsBy, MayEnd, RunsAs}
+use Rattle.ll_session.specs.Run.{BeginsBy, IsOpened, MayEnd, RunsAs}
 use Rattle.ll_wire.specs.Transcript.{Writes}
 use Rattle.ll_audit.specs.Saved.{saved_text}
 use Rattle.ll_program.specs.Options.{RunOrder, TreeOrder, tree_of}
@@ -72,7 +73,7 @@ Lacks order text CommandLine =
     (plan : Plan) × IsPlanOf (parse_document text) plan × (profile_of order.profile plan ≡ None)
 Lacks order text File = ⊤
 Lacks order text NoMemory = ⊤
-Lacks order text Opening = ⊥
+Lacks order text (Opening refusal) = ⊥
 Lacks order text Output = ⊥
 Lacks order text Socket = ⊥
 
@@ -122,6 +123,13 @@ IsRun order text end script script' out out' blank file file' =
     × HasRunAs order.comments order.strict setup script script' out out' stop entries
     × (order.strict ≡ false → stop ≡ None)
     × IsSaved order.save setup entries blank file file' × IsConcluded order.script stop end
+
+-- The opening of the run that is asked for was refused like this, if the policy's file has this text: the line of that
+-- reply is all that was written. Or a session began
+abbrev pub HasOpened : RunOrder → List ℕ → (out out' : Option (List ℕ)) → Option Refusal → Type 0
+HasOpened order text out out' refusal =
+    (setup : Setup) × (entries : List Entry) × IsSetup (tree_of order) text setup
+    × IsOpened setup out out' refusal entries
 
 -- what a run that this fault ended has written: a prefix of the lines for some first pieces
 abbrev pub HasBegun : (strict : Bool) → Setup → (script out out' : Option (List ℕ)) → RunFault → Type 0

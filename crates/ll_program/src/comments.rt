@@ -105,7 +105,7 @@ impl SpokenLines {
     {
         match stop {
             Stop::AtLine(line, reply) => Stop::AtLine(self.line_there(line), reply),
-            Stop::AtOpening(reply) => Stop::AtOpening(reply),
+            Stop::AtOpening(refusal) => Stop::AtOpening(refusal),
         }
     }
 }

@@ -8,7 +8,7 @@ ghost use Rattle.ll_program.specs.Failure.{failure_of, line_of, status_of};
 use clap::error::ErrorKind;
 use ll_audit::{FileAuditFault, SaveFault};
 use ll_policy::PolicyFault;
-use ll_session::RunFault;
+use ll_session::{Refusal, RunFault};
 use ll_wire::SessionFault;
 use std::fmt;
 use std::fmt::Display;
@@ -18,7 +18,8 @@ use std::fmt::Display;
 pub enum Failure {
     CommandLine,
     Policy(PolicyFault),
-    Opening,
+    /// A call that the policy asks for is refused like this.
+    Opening(Refusal),
     File,
     Output,
     /// The listener of `serve` failed.
@@ -34,7 +35,7 @@ impl Display for Failure {
         match self {
             Failure::CommandLine => f.write_str("landtree: command line"),
             Failure::Policy(fault) => write!(f, "landtree: policy {fault}"),
-            Failure::Opening => f.write_str("landtree: opening call refused"),
+            Failure::Opening(_) => f.write_str("landtree: opening call refused"),
             Failure::File => f.write_str("landtree: file"),
             Failure::Output => f.write_str("landtree: output"),
             Failure::Socket => f.write_str("landtree: socket"),
@@ -49,7 +50,7 @@ impl Failure {
         ensures { result ≡ failure_of fault }
     {
         match fault {
-            RunFault::Opening => Failure::Opening,
+            RunFault::Opening(refusal) => Failure::Opening(refusal),
             RunFault::Session(fault) => Failure::of_session(fault),
         }
     }
@@ -115,7 +116,7 @@ impl Failure {
         match self {
             Failure::CommandLine => 2,
             Failure::Policy(_) => 2,
-            Failure::Opening => 2,
+            Failure::Opening(_) => 2,
             Failure::File => 1,
             Failure::Output => 1,
             Failure::Socket => 1,

@@ -45,7 +45,7 @@ pub use options::{CheckOptions, Options, RunOptions, ScheduleOptions};
 pub use output::NewFile;
 pub use paths::paths_of;
 pub use policy::{policy_of, setup_of};
-pub use program::{Recorded, audit, audit_over, begin_record, header_of, run, save_history};
+pub use program::{Ran, Recorded, audit, audit_over, begin_record, header_of, run, save_history};
 pub use report::{AnswerForm, ReportForm};
 pub use rights::{OldPolicy, RightsOptions, RightsScope};
 pub use serve::ServeOptions;

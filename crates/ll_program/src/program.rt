@@ -12,15 +12,15 @@ ghost use Rattle.ll_audit.specs.Faults.{BlamesAudit, IsReading};
 ghost use Rattle.ll_audit.specs.Saved.{Judges, saved_text, verdict_line};
 ghost use Rattle.ll_session.specs.declared.fault.RunFault.{RunFault};
 ghost use Rattle.ll_session.specs.declared.setup.Setup.{Setup};
-ghost use Rattle.ll_session.specs.Run.{EndsBy, MayEnd};
+ghost use Rattle.ll_session.specs.Run.{EndsBy, IsOpened, MayEnd, refusal_in};
 ghost use Rattle.ll_wire.specs.Entries.{IsEntry, header_tokens};
 ghost use Rattle.ll_wire.specs.Grammar.{line_of};
 ghost use Rattle.ll_wire.specs.Pieces.{pieces};
 ghost use Rattle.ll_program.specs.declared.failure.Failure.{Failure};
 ghost use Rattle.ll_program.specs.Failure.{FailsAudit, failure_at, failure_of, IsOfSaving};
 ghost use Rattle.ll_program.specs.Comments.{stop_there};
-ghost use Rattle.ll_program.specs.Policy.{HasBegun, HasBegunAs, HasRun, HasRunAs, header_of, IsConcluded, IsRun};
-ghost use Rattle.ll_program.specs.Policy.{IsSaved, IsUnread, MayFail};
+ghost use Rattle.ll_program.specs.Policy.{HasBegun, HasBegunAs, HasOpened, HasRun, HasRunAs, header_of, IsConcluded};
+ghost use Rattle.ll_program.specs.Policy.{IsRun, IsSaved, IsUnread, MayFail};
 ghost use Rattle.ll_seq.specs.History.{IsLegal};
 ghost use Rattle.ll_seq.specs.State.{start};
 
@@ -33,7 +33,7 @@ use crate::stopped::Stopped;
 use crate::text::read_text;
 use ll_audit::{Progress, Verdict, record_in, run_audit_over, save_in};
 use ll_seq::History;
-use ll_session::{Chronicle, Manner, NoKeeper, Run, Setup, Stop, run_over};
+use ll_session::{Chronicle, Manner, NoKeeper, Refusal, Run, Setup, Stop, run_over};
 use ll_wire::{Destination, Ends, Header, Pair, Version};
 use std::alloc::Global;
 use std::io::{Read, Write};
@@ -46,11 +46,12 @@ pub struct Recorded<D> {
     pub record: Option<D>,
 }
 
-// A run, and what ended it before its script, if anything did.
+// A run, what ended it before its script, if anything did, and how its opening was refused, if that didn't end it.
 #[derive(Drop)]
 struct Performed<D> {
     run: Recorded<D>,
     stop: Option<Stop>,
+    refusal: Option<Refusal>,
 }
 
 impl<D> Performed<D> {
@@ -58,11 +59,17 @@ impl<D> Performed<D> {
     fn of(run: Run, record: Option<D>) -> Performed<D>
         ensures history { result.run.history ≡ run.history }
         ensures stop { result.stop ≡ run.stop }
+        ensures refusal { result.refusal ≡ run.refusal }
     {
-        let Run { history, stop } = run;
+        let Run {
+            history,
+            stop,
+            refusal,
+        } = run;
         Performed {
             run: Recorded { history, record },
             stop,
+            refusal,
         }
     }
 }
@@ -84,6 +91,9 @@ fn perform_over<H: Wait, D: Write + Drop, E: Ends>(
         HasRun is_strict setup (E.devices ends.old).remaining (E.devices ends.new).remaining
         (E.devices ends.old).contents (E.devices ends.new).contents it.stop it.run.history.entries) }
     ensures lax { IfOk result (λ it. is_strict ≡ false → it.stop ≡ None) }
+    ensures opening { IfOk result (λ it.
+        IsOpened setup (E.devices ends.old).contents (E.devices ends.new).contents (refusal_in it.stop it.refusal)
+        it.run.history.entries) }
     ensures legal { IfOk result (λ it. IsLegal (start setup.rules setup.nodes) it.run.history.entries) }
     ensures entries { IfOk result (λ it. All IsEntry it.run.history.entries) }
     ensures failure { IfErr result (λ failure. (fault : RunFault) × MayEnd setup fault
@@ -126,6 +136,8 @@ fn perform<H: Wait, D: Write + Drop, R: Read, W: Write>(
     ensures transcript { IfOk result (λ it. HasRun is_strict setup (R.remaining script.old) (R.remaining script.new)
         (W.contents out.old) (W.contents out.new) it.stop it.run.history.entries) }
     ensures lax { IfOk result (λ it. is_strict ≡ false → it.stop ≡ None) }
+    ensures opening { IfOk result (λ it. IsOpened setup (W.contents out.old) (W.contents out.new)
+        (refusal_in it.stop it.refusal) it.run.history.entries) }
     ensures legal { IfOk result (λ it. IsLegal (start setup.rules setup.nodes) it.run.history.entries) }
     ensures entries { IfOk result (λ it. All IsEntry it.run.history.entries) }
     ensures failure { IfErr result (λ failure. (fault : RunFault) × MayEnd setup fault
@@ -149,13 +161,14 @@ impl<D> Performed<D> {
     fn there(self, lines: &SpokenLines) -> Performed<D>
         ensures run { result.run ≡ self.run }
         ensures stop { result.stop ≡ option_map (stop_there lines.now.numbers.items) self.stop }
+        ensures refusal { result.refusal ≡ self.refusal }
     {
-        let Performed { run, stop } = self;
+        let Performed { run, stop, refusal } = self;
         let stop = match stop {
             Some(stop) => Some(lines.stop_there(stop)),
             None => None,
         };
-        Performed { run, stop }
+        Performed { run, stop, refusal }
     }
 }
 
@@ -241,6 +254,8 @@ fn perform_asked<H: Wait, R: Read, W: Write, F: Destination>(
         (R.remaining script.old) (R.remaining script.new)
         (W.contents out.old) (W.contents out.new) it.stop it.run.history.entries) }
     ensures lax { IfOk result (λ it. options.now.strict ≡ false → it.stop ≡ None) }
+    ensures opening { IfOk result (λ it. IsOpened setup (W.contents out.old) (W.contents out.new)
+        (refusal_in it.stop it.refusal) it.run.history.entries) }
     ensures legal { IfOk result (λ it. IsLegal (start setup.rules setup.nodes) it.run.history.entries) }
     ensures entries { IfOk result (λ it. All IsEntry it.run.history.entries) }
     ensures failure { IfErr result (λ failure.
@@ -291,17 +306,35 @@ fn save_where_named<F: Destination>(
 }
 
 // Returns what the program concludes from what ended the run of this script.
-fn conclude(alloc: Global, script: &str, stop: Option<Stop>) -> Result<Conclusion, Failure>
-    ensures end { IfOk result (IsConcluded script.now stop) }
-    ensures failure { IfErr result (λ failure. (is_some stop ≡ true) × (failure ≡ Failure.NoMemory)) }
+fn conclude(alloc: Global, script: &str, stop: &Option<Stop>) -> Result<Conclusion, Failure>
+    ensures end { IfOk result (IsConcluded script.now stop.now) }
+    ensures failure { IfErr result (λ failure. (is_some stop.now ≡ true) × (failure ≡ Failure.NoMemory)) }
 {
     let Some(stop) = stop else {
         return Ok(Conclusion::Done);
     };
-    match Stopped::of(alloc, script, &stop) {
+    match Stopped::of(alloc, script, stop) {
         Ok(stopped) => Ok(Conclusion::Stopped(stopped)),
         Err(_) => Err(Failure::NoMemory),
     }
+}
+
+// Returns how the opening was refused, if it was: that ended a strict run, or is told of another one.
+fn refusal_in(stop: Option<Stop>, refusal: Option<Refusal>) -> Option<Refusal>
+    ensures { result ≡ refusal_in stop refusal }
+{
+    match stop {
+        Some(Stop::AtOpening(refusal)) => Some(refusal),
+        Some(Stop::AtLine(_, _)) => None,
+        None => refusal,
+    }
+}
+
+/// What the program concludes from a run, and how its opening was refused, if it was.
+#[derive(Debug, Drop)]
+pub struct Ran {
+    pub conclusion: Conclusion,
+    pub refusal: Option<Refusal>,
 }
 
 /// Runs a script as the options ask. If they name a policy, `policy` reads it. If they name a file for the history, the
@@ -315,11 +348,14 @@ pub fn run<H: Wait, P: Read, R: Read, W: Write, F: Destination>(
     script: &mut R,
     out: &mut W,
     file: &mut F,
-) -> Result<Conclusion, Failure>
-    ensures done { IfOk result (λ end. (text : List ℕ) × IfSome (P.remaining policy.old) (λ told. text ≡ told)
-        × IsRun (order_in options.now) text end (R.remaining script.old) (R.remaining script.new)
+) -> Result<Ran, Failure>
+    ensures done { IfOk result (λ ran. (text : List ℕ) × IfSome (P.remaining policy.old) (λ told. text ≡ told)
+        × IsRun (order_in options.now) text ran.conclusion (R.remaining script.old) (R.remaining script.new)
         (W.contents out.old) (W.contents out.new)
         (F.blank file.old) (F.contents file.old) (F.contents file.new)) }
+    // How the opening was refused, if it was: the line of that reply is all that was written.
+    ensures opening { IfOk result (λ ran. (text : List ℕ) × IfSome (P.remaining policy.old) (λ told. text ≡ told)
+        × HasOpened (order_in options.now) text (W.contents out.old) (W.contents out.new) ran.refusal) }
     ensures kept { OnErr result (F.contents file.new ≡ F.contents file.old) }
     ensures failure { IfErr result (λ failure. (text : List ℕ) × IfSome (P.remaining policy.old) (λ told. text ≡ told)
         × MayFail (order_in options.now) text (R.remaining script.old) (R.remaining script.new)
@@ -334,13 +370,17 @@ pub fn run<H: Wait, P: Read, R: Read, W: Write, F: Destination>(
         Ok(it) => it,
         Err(failure) => return Err(failure),
     };
-    let Performed { run, stop } = it;
-    let end = match conclude(alloc, options.script, stop) {
-        Ok(end) => end,
+    let Performed { run, stop, refusal } = it;
+    let conclusion = match conclude(alloc, options.script, &stop) {
+        Ok(conclusion) => conclusion,
         Err(failure) => return Err(failure),
     };
+    let refusal = refusal_in(stop, refusal);
     match save_where_named(alloc, options, header, run, file) {
-        Ok(()) => Ok(end),
+        Ok(()) => Ok(Ran {
+            conclusion,
+            refusal,
+        }),
         Err(failure) => Err(failure),
     }
 }

@@ -74,7 +74,7 @@ impl Stopped {
         ensures bad { IfOk result (λ stopped. stopped.bad_line ≡ bad_line stop.now) }
     {
         let line = match stop {
-            Stop::AtOpening(reply) => told(alloc, script, ": before line 1: ", reply)?,
+            Stop::AtOpening(refusal) => told(alloc, script, ": before line 1: ", &refusal.reply)?,
             Stop::AtLine(line, reply) => {
                 let place = place_of(alloc, *line)?;
                 told(alloc, script, place.as_str(), reply)?

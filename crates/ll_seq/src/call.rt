@@ -1,11 +1,12 @@
 //! Calls.
 
-ghost use Rattle.std.specs.Prelude.{◌≡◌};
+ghost use Rattle.std.specs.Prelude.{◌≡◌, IfOk};
 ghost use Rattle.ll_seq.specs.Call.{creates, descriptor_of, is_exclusive, reads, takes_gate, writes};
 ghost use Rattle.ll_seq.specs.History.{is_connect};
 
 use ll_path::{Data, Target};
 use ll_rights::{Access, Kind};
+use std::alloc::{AllocError, Global};
 
 /// Whether a descriptor reads, writes, or both. open(2), "The file access modes"
 #[derive(Clone, Copy, Debug, PartialEq, Eq)]
@@ -109,6 +110,15 @@ pub enum Call {
     Connect,
 }
 
+// Returns copies of two path arguments.
+fn both_copied(alloc: Global, one: &Target, other: &Target) -> Result<(Target, Target), AllocError>
+    ensures { IfOk result (λ copies. (copies.0 ≡ one.now) × (copies.1 ≡ other.now)) }
+{
+    let one = one.copy(alloc)?;
+    let other = other.copy(alloc)?;
+    Ok((one, other))
+}
+
 impl Call {
     /// Returns the descriptor that the call is made on, or None.
     pub fn descriptor(&self) -> Option<u64>
@@ -136,5 +146,48 @@ impl Call {
         ensures { result ≡ is_connect self.now }
     {
         matches!(self, Call::Connect)
+    }
+
+    /// Returns a copy. Errors: memory ran out.
+    pub fn copy(&self, alloc: Global) -> Result<Call, AllocError>
+        ensures { IfOk result (λ copy. copy ≡ self.now) }
+    {
+        match self {
+            Call::Make(kind, path) => Ok(Call::Make(*kind, path.copy(alloc)?)),
+            Call::Open(mode, path) => Ok(Call::Open(*mode, path.copy(alloc)?)),
+            Call::Read(number, offset, len) => Ok(Call::Read(*number, *offset, *len)),
+            Call::Write(number, offset, data) => Ok(Call::Write(*number, *offset, data.copy()?)),
+            Call::Ftruncate(number, len) => Ok(Call::Ftruncate(*number, *len)),
+            Call::Close(number) => Ok(Call::Close(*number)),
+            Call::Truncate(path, len) => Ok(Call::Truncate(path.copy(alloc)?, *len)),
+            Call::ReadDir(path) => Ok(Call::ReadDir(path.copy(alloc)?)),
+            Call::Stat(path) => Ok(Call::Stat(path.copy(alloc)?)),
+            Call::Exec(path) => Ok(Call::Exec(path.copy(alloc)?)),
+            Call::Unlink(path) => Ok(Call::Unlink(path.copy(alloc)?)),
+            Call::Rmdir(path) => Ok(Call::Rmdir(path.copy(alloc)?)),
+            Call::Rename(one, other) => {
+                let (one, other) = both_copied(alloc, one, other)?;
+                Ok(Call::Rename(one, other))
+            }
+            Call::RenameNoreplace(one, other) => {
+                let (one, other) = both_copied(alloc, one, other)?;
+                Ok(Call::RenameNoreplace(one, other))
+            }
+            Call::Exchange(one, other) => {
+                let (one, other) = both_copied(alloc, one, other)?;
+                Ok(Call::Exchange(one, other))
+            }
+            Call::Link(one, other) => {
+                let (one, other) = both_copied(alloc, one, other)?;
+                Ok(Call::Link(one, other))
+            }
+            Call::Ruleset(rights) => Ok(Call::Ruleset(*rights)),
+            Call::Allow(number, path, rights) => {
+                Ok(Call::Allow(*number, path.copy(alloc)?, *rights))
+            }
+            Call::Confine(number) => Ok(Call::Confine(*number)),
+            Call::Spawn => Ok(Call::Spawn),
+            Call::Connect => Ok(Call::Connect),
+        }
     }
 }

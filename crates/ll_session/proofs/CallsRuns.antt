@@ -28,6 +28,7 @@ use Rattle.ll_session.specs.Session.{Answers, Tells}
 use Rattle.ll_session.specs.Talk.{AsksFor}
 use Rattle.ll_session.specs.declared.calls_run.CallReplies.TheVariants as replies_of
 use Rattle.ll_session.specs.declared.client_call.ClientCall.{ClientCall}
+use Rattle.ll_session.specs.declared.refusal.Refusal.{Refusal}
 use Rattle.ll_session.specs.declared.setup.Setup.{Setup}
 use Rattle.ll_session.proofs.Leading.{nothing_leads, so_leads, then_leads}
 use Rattle.ll_session.proofs.Replies.{answers_count, answers_so}
@@ -119,8 +120,8 @@ makes_them setup before calls replies entries e =
     (without before e.0, without before e.1, e.2, e.3, sym e.4)
 
 -- a session whose opening is refused
-pub refused_them : (setup : Setup) (calls : List ClientCall) (reply : Reply) (entries : List Entry)
-    → AtEnd (λ t. Opens setup (refused reply t)) (λ s t. t ≡ s) entries
-    → Makes setup calls (replies_of.Refused reply) entries
-refused_them setup calls reply entries e =
+pub refused_them : (setup : Setup) (calls : List ClientCall) (refusal : Refusal) (entries : List Entry)
+    → AtEnd (λ t. Opens setup (refused refusal t)) (λ s t. t ≡ s) entries
+    → Makes setup calls (replies_of.Refused refusal) entries
+refused_them setup calls refusal entries e =
     (e.0, e.2, sym e.4 ∙ ap (λ (t : Session). t.entries) e.3)

@@ -1,5 +1,9 @@
 -- The clients that come before the first line, with their calls.
-use Rattle.std.proofs.Common.{◌≡◌, ◌⊎◌, ◌<◌, ◌≤◌, ◌+◌, ℕ, suc, List, [], ◌∷◌, ◌++◌, length, drop, drop-cons}
+use Rattle.std.proofs.Common.{◌≡◌, ◌<◌, ◌≤◌, ◌+◌, ℕ, suc, Bool, List, [], ◌∷◌, ◌++◌, length, drop}
+use Rattle.std.proofs.Common.{drop-cons}
+use Rattle.std.proofs.Common.{Result, Ok, Err}
+use Rattle.std.specs.Prelude.{IfErr, cond}
+use Rattle.std.proofs.lemmas.Bool.{ne_eqb}
 use Rattle.std.proofs.Common.{get_or, Option, None, Some, refl, sym, ap, subst, ◌∙◌, inl, inr, arith, true, false}
 use Rattle.std.specs.declared.alloc.Global.{Global}
 use Rattle.std.proofs.lemmas.List.{drop_all, length-append}
@@ -22,12 +26,13 @@ use Rattle.ll_session.proofs.Leadings.{ask_so}
 use Rattle.ll_session.proofs.Lists.{asks_for_count}
 use Rattle.ll_session.proofs.Seen.{count_numbers}
 use Rattle.ll_session.specs.Beside.{MakesBeside, StopsBeside}
-use Rattle.ll_session.specs.declared.opening.Refusal.{Refusal}
-use Rattle.ll_session.specs.declared.opening.Refusal.TheVariants.{AtCall, AtConnect}
+use Rattle.ll_session.specs.declared.refusal.Opener.{Opener}
+use Rattle.ll_session.specs.declared.refusal.Opener.TheVariants.{Loader, Profile}
+use Rattle.ll_session.specs.declared.refusal.Refusal.{Refusal}
 use Rattle.ll_session.specs.declared.setup.Setup.{Setup}
-use Rattle.ll_session.specs.Opening.{Coming, Comes, Loads, Makes, Opens, Stops, made, unconnected, unmade, begun}
-use Rattle.ll_session.specs.Opening.{fresh, refused, stopped}
-use Rattle.ll_session.specs.Progress.{coming_at, reply_at, without}
+use Rattle.ll_session.specs.Opening.{Coming, Comes, EndsOpening, Loads, Makes, Opens, Refuses, Stops, begun, coming_at}
+use Rattle.ll_session.specs.Opening.{fresh, made, refused, unconnected, unconnected_by, unmade}
+use Rattle.ll_session.specs.Progress.{without}
 use Rattle.ll_session.proofs.Ways.{by_number}
 
 -- memory may run out before anyone has connected
@@ -35,16 +40,30 @@ start_refused : (setup : Setup) → Connects (fresh setup) (Refused NoMemory) (f
 unfolding empty checked entries get insert
 start_refused setup = (refl, starved setup.some_entries (record { takes = refl; passes = refl }))
 
-refused_by : (setup : Setup) (loader : Option (Vec Call Global))
-    → Loads (fresh setup) loader (unconnected (Refused NoMemory) (fresh setup))
-    ⊎ ((loaded : Session) × Loads (fresh setup) loader (made loaded)
-    × (Comes loaded setup.profile.items (unconnected (Refused NoMemory) (fresh setup))
-    ⊎ Comes loaded setup.profile.items (unmade (Refused NoMemory) (fresh setup))))
-refused_by setup (Some calls) = inl (fresh setup, start_refused setup, λ e. absurd cc, refl)
-refused_by setup None = inr (fresh setup, refl, inl (fresh setup, start_refused setup, λ e. absurd cc, refl))
+by_loader : (setup : Setup) (loader : Option (Vec Call Global)) → setup.loader ≡ loader
+    → (refusal : Refusal) × Opens setup (refused refusal (fresh setup))
+by_loader setup (Some calls) is = (
+  unconnected_by Loader NoMemory,
+  (
+    refl,
+    subst (λ (o : Option (Vec Call Global)). Loads (fresh setup) o (unconnected (Refused NoMemory) (fresh setup)))
+        (sym is) (fresh setup, start_refused setup, λ e. absurd cc, refl),
+  ),
+)
+by_loader setup None is = (
+  unconnected_by Profile NoMemory,
+  (
+    refl,
+    (
+      fresh setup,
+      subst (λ (o : Option (Vec Call Global)). Loads (fresh setup) o (made (fresh setup))) (sym is) refl,
+      (fresh setup, start_refused setup, λ e. absurd cc, refl),
+    ),
+  ),
+)
 
-pub may_be_refused : (setup : Setup) → Opens setup (refused (Refused NoMemory) (fresh setup))
-may_be_refused setup = refused_by setup setup.loader
+pub may_be_refused : (setup : Setup) → (refusal : Refusal) × Opens setup (refused refusal (fresh setup))
+may_be_refused setup = by_loader setup setup.loader refl
 
 -- the next of the calls that are left
 pub next_call : (items yielded : List Call) (call : Call) → (length yielded < length items)
@@ -62,12 +81,17 @@ next_call items yielded call turn =
 abbrev pub MakesSome : (limit place : ℕ) → List Call → ℕ → (ks mid : List Knows) → Type 0
 MakesSome limit place items count ks mid =
     ((ks' : List Knows) → MakesBeside limit mid place (drop count items) ks' → MakesBeside limit ks place items ks')
-    × ((reply : Reply) (ks' : List Knows) → StopsBeside limit mid place (drop count items) reply ks'
-    → StopsBeside limit ks place items reply ks')
+    × ((number all : ℕ) (reply : Reply) (ks' : List Knows) → all ≡ count + number
+    → StopsBeside limit mid place (drop count items) number reply ks' → StopsBeside limit ks place items all reply ks')
 
 module _ (limit place : ℕ) (items : List Call) where
   pub makes_none : (ks : List Knows) → MakesSome limit place items 0 ks ks
-  makes_none ks = (λ ks' h. h, λ reply ks' h. h)
+  makes_none ks = (
+    λ ks' h. h,
+    λ number all reply ks' e h.
+        let same : number ≡ all = omega (arith, e) in
+        subst (λ n. StopsBeside limit ks place items n reply ks') same h,
+  )
 
   module _ (ks mid ks' : List Knows) (yielded : List Call) (call : Call) (reply : Reply)
       (some : MakesSome limit place items (length yielded) ks mid) (act : AsksFor limit mid place call reply ks')
@@ -76,14 +100,18 @@ module _ (limit place : ℕ) (items : List Call) where
     makes_one quiet = (
       λ end rest. some.0 end (subst (λ (l : List Call). MakesBeside limit mid place l end) (sym split)
           (reply, ks', act, quiet, rest)),
-      λ told end rest. some.1 told end (subst (λ (l : List Call). StopsBeside limit mid place l told end) (sym split)
-          (reply, ks', act, inr (quiet, rest))),
+      λ number all told end e rest.
+          let more : length (yielded ++ call ∷ []) ≡ length yielded + 1 = length-append yielded (call ∷ []) in
+          some.1 (number + 1) all told end (omega (arith, e, more))
+          (subst (λ (l : List Call). StopsBeside limit mid place l (number + 1) told end) (sym split)
+          (reply, ks', act, inr (quiet, number, refl, rest))),
     )
 
-    pub stops_here : (told : Reply) → (told ≡ reply) × (is_refusal reply ≡ true)
-        → StopsBeside limit ks place items told ks'
-    stops_here told loud = some.1 told ks' (subst (λ (l : List Call). StopsBeside limit mid place l told ks')
-        (sym split) (reply, ks', act, inl (loud.1, loud.0, refl)))
+    pub stops_here : (all : ℕ) (told : Reply) → all ≡ length yielded + 1 → (told ≡ reply) × (is_refusal reply ≡ true)
+        → StopsBeside limit ks place items all told ks'
+    stops_here all told e loud =
+        some.1 1 all told ks' e (subst (λ (l : List Call). StopsBeside limit mid place l 1 told ks') (sym split)
+        (reply, ks', act, inl (loud.1, refl, loud.0, refl)))
 
   pub makes_all : (ks ks' : List Knows) (count : ℕ) → length items ≤ count → MakesSome limit place items count ks ks'
       → MakesBeside limit ks place items ks'
@@ -119,27 +147,27 @@ module _ (rules : Rules) (room limit place : ℕ) where
       (makes_so mid ks' calls (still_less ks mid call reply less h.2) h.4))
       (λ history end c s s' it. (reply, it.0, it.1, h.3, it.2))
 
-  pub stops_so : (ks ks' : List Knows) (calls : List Call) (reply : Reply) → place < length ks
-      → StopsBeside limit ks place calls reply ks'
-      → Leads rules room limit ks ks' (λ s t. Stops (place + 1) s calls reply t)
-  stops_so ks ks' [] reply less h = absurd h
-  stops_so ks ks' (call ∷ calls) reply less h =
+  pub stops_so : (ks ks' : List Knows) (calls : List Call) (number : ℕ) (reply : Reply) → place < length ks
+      → StopsBeside limit ks place calls number reply ks'
+      → Leads rules room limit ks ks' (λ s t. Stops (place + 1) s calls number reply t)
+  stops_so ks ks' [] number reply less h = absurd h
+  stops_so ks ks' (call ∷ calls) number reply less h =
       let told = h.0 in
       let mid = h.1 in
       let one = one_call ks mid call told less h.2 in elim h.3 [
         | inl now ↦ subst (λ (l : List Knows). Leads rules room limit ks l
-            (λ s t. Stops (place + 1) s (call ∷ calls) reply t)) (sym now.2)
+            (λ s t. Stops (place + 1) s (call ∷ calls) number reply t)) (sym now.3)
             (so_leads rules room limit ks mid (λ s t. Called s (place + 1) call told t)
-            (λ s t. Stops (place + 1) s (call ∷ calls) reply t) one
+            (λ s t. Stops (place + 1) s (call ∷ calls) number reply t) one
             (λ history end c s s' called.
-            (told, between rules room limit history mid, called, inl (now.0, now.1, refl))))
+            (told, between rules room limit history mid, called, inl (now.0, now.1, now.2, refl))))
         | inr later ↦ so_leads rules room limit ks ks'
-            (λ s u. (t : Session) × Called s (place + 1) call told t × Stops (place + 1) t calls reply u)
-            (λ s t. Stops (place + 1) s (call ∷ calls) reply t)
+            (λ s u. (t : Session) × Called s (place + 1) call told t × Stops (place + 1) t calls later.1 reply u)
+            (λ s t. Stops (place + 1) s (call ∷ calls) number reply t)
             (then_leads rules room limit ks mid ks' (λ s t. Called s (place + 1) call told t)
-            (λ s t. Stops (place + 1) s calls reply t) one
-            (stops_so mid ks' calls reply (still_less ks mid call told less h.2) later.1))
-            (λ history end c s s' it. (told, it.0, it.1, inr (later.0, it.2)))
+            (λ s t. Stops (place + 1) s calls later.1 reply t) one
+            (stops_so mid ks' calls later.1 reply (still_less ks mid call told less h.2) later.3))
+            (λ history end c s s' it. (told, it.0, it.1, inr (later.0, later.1, later.2, it.2)))
       ]
 
 -- ---- a client that comes
@@ -175,6 +203,21 @@ comes_not rules room limit ks ks' calls errno leads = so_leads rules room limit 
     (λ s t. Comes s calls (unconnected (Refused errno) t)) leads
     (λ history end c s t h. (h.0.0, h.0.1, λ e. absurd cc, h.1))
 
+-- both of an error, and what follows
+pub if_err_both : {T E : Type 0} (r : Result T E) (P Q R : E → Type 0) → ((e : E) → P e → Q e → R e) → IfErr r P
+    → IfErr r Q → IfErr r R
+if_err_both (Ok value) P Q R f p q = tt
+if_err_both (Err e) P Q R f p q = f e p q
+
+-- a refused call
+pub comes_unmade : (rules : Rules) (room limit : ℕ) (ks ks' : List Knows) (calls : List Call) (refusal : Refusal)
+    → 1 ≤ refusal.calls
+    → Leads rules room limit ks ks' (λ s t. Comes s calls (unmade refusal.calls refusal.reply t))
+    → Leads rules room limit ks ks' (λ s t. Comes s calls (coming_at refusal t))
+comes_unmade rules room limit ks ks' calls refusal some = subst (λ (b : Bool). Leads rules room limit ks ks'
+    (λ s t. Comes s calls (cond b (unconnected refusal.reply t) (unmade refusal.calls refusal.reply t))))
+    (sym (ne_eqb refusal.calls 0 (λ e. omega (arith, e, some))))
+
 -- ---- a loader
 
 pub loads_some : (rules : Rules) (room limit : ℕ) (ks ks' : List Knows) (loader : Option (Vec Call Global))
@@ -192,12 +235,6 @@ loads_none rules room limit ks loader is =
     (nothing_leads rules room limit ks)
 
 -- ---- an opening
-
--- who isn't connected, or makes not all calls, is refused
-either_way : (s t : Session) (calls : List Call) (refusal : Refusal) → Comes s calls (coming_at refusal t)
-    → Comes s calls (unconnected (reply_at refusal) t) ⊎ Comes s calls (unmade (reply_at refusal) t)
-either_way s t calls (AtConnect errno) comes = inl comes
-either_way s t calls (AtCall reply) comes = inr comes
 
 module _ (setup : Setup) (rules : Rules) (room limit : ℕ) where
   -- the session begins
@@ -223,47 +260,31 @@ module _ (setup : Setup) (rules : Rules) (room limit : ℕ) where
         ),
   )
 
-  module _ (ks js : List Knows) (refusal : Refusal)
-      (loads : Leads rules room limit ks js (λ s t. Loads s setup.loader (coming_at refusal t))) where
-    -- the loader doesn't come
-    pub no_loader : (errno : Errno) → refusal ≡ AtConnect errno
-        → Leads rules room limit ks js (λ s t. s ≡ fresh setup → Opens setup (refused (Refused errno) t))
-    no_loader errno same = so_leads rules room limit ks js
-        (λ s t. Loads s setup.loader (coming_at refusal t))
-        (λ s t. s ≡ fresh setup → Opens setup (refused (Refused errno) t)) loads
-        (λ history end c s t h is.
-        let left = between rules room limit history js in
-        inl (subst (λ (z : Session). Loads z setup.loader (unconnected (Refused errno) left)) is
-        (subst (λ (r : Refusal). Loads (between rules room limit history ks) setup.loader (coming_at r left)) same
-        h)))
-
-    -- one of its calls is refused
-    pub loader_stops : (reply : Reply) → refusal ≡ AtCall reply
-        → Leads rules room limit ks js (λ s t. s ≡ fresh setup → Opens setup stopped)
-    loader_stops reply same = so_leads rules room limit ks js
-        (λ s t. Loads s setup.loader (coming_at refusal t))
-        (λ s t. s ≡ fresh setup → Opens setup stopped) loads
-        (λ history end c s t h is.
-        let left = between rules room limit history js in (
-          reply,
-          left,
-          subst (λ (z : Session). Loads z setup.loader (unmade reply left)) is
-              (subst (λ (r : Refusal). Loads (between rules room limit history ks) setup.loader (coming_at r left))
-              same h),
-        ))
+  -- the loader doesn't come, or one of its calls is refused
+  pub no_loader : (ks js : List Knows) (refusal : Refusal) → refusal.opener ≡ Loader
+      → Leads rules room limit ks js (λ s t. Loads s setup.loader (coming_at refusal t))
+      → Leads rules room limit ks js (λ s t. s ≡ fresh setup → Refuses setup refusal t)
+  no_loader ks js refusal who loads = so_leads rules room limit ks js
+      (λ s t. Loads s setup.loader (coming_at refusal t))
+      (λ s t. s ≡ fresh setup → Refuses setup refusal t) loads
+      (λ history end c s t h is.
+      let left = between rules room limit history js in
+      subst (λ (o : Opener). EndsOpening o setup (coming_at refusal left)) (sym who)
+      (subst (λ (z : Session). Loads z setup.loader (coming_at refusal left)) is h))
 
   -- the first client doesn't come, or one of its calls is refused
-  pub no_session : (ks js ls : List Knows) (refusal : Refusal)
+  pub no_session : (ks js ls : List Knows) (refusal : Refusal) → refusal.opener ≡ Profile
       → Leads rules room limit ks js (λ s t. Loads s setup.loader (made t))
       → Leads rules room limit js ls (λ s t. Comes s setup.profile.items (coming_at refusal t))
-      → Leads rules room limit ks ls (λ s t. s ≡ fresh setup → Opens setup (refused (reply_at refusal) t))
-  no_session ks js ls refusal loads comes = so_leads rules room limit ks ls
+      → Leads rules room limit ks ls (λ s t. s ≡ fresh setup → Refuses setup refusal t)
+  no_session ks js ls refusal who loads comes = so_leads rules room limit ks ls
       (λ s u. (t : Session) × Loads s setup.loader (made t) × Comes t setup.profile.items (coming_at refusal u))
-      (λ s t. s ≡ fresh setup → Opens setup (refused (reply_at refusal) t))
+      (λ s t. s ≡ fresh setup → Refuses setup refusal t)
       (then_leads rules room limit ks js ls (λ s t. Loads s setup.loader (made t))
       (λ s t. Comes s setup.profile.items (coming_at refusal t)) loads comes)
-      (λ history end c s t h is. inr (
+      (λ history end c s t h is.
+      subst (λ (o : Opener). EndsOpening o setup (coming_at refusal (between rules room limit history ls))) (sym who) (
         h.0,
         subst (λ (z : Session). Loads z setup.loader (made h.0)) is h.1,
-        either_way h.0 (between rules room limit history ls) setup.profile.items refusal h.2,
+        h.2,
       ))

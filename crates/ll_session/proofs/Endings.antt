@@ -6,12 +6,11 @@ use Rattle.std.specs.Io.KnownBytes.{Appends}
 use Rattle.ll_wire.specs.Devices.{Devices}
 use Rattle.ll_wire.specs.Grammar.{reply_line}
 use Rattle.ll_wire.specs.Pieces.{pieces}
-use Rattle.ll_rights.specs.declared.errno.Errno.TheVariants as errno
 use Rattle.ll_seq.specs.declared.reply.Entry.{Entry}
 use Rattle.ll_seq.specs.declared.reply.Reply.{Reply}
-use Rattle.ll_seq.specs.declared.reply.Reply.TheVariants.{Refused}
 use Rattle.ll_session.specs.declared.fault.RunFault.{RunFault}
 use Rattle.ll_session.specs.declared.fault.RunFault.TheVariants.{Opening, Session}
+use Rattle.ll_session.specs.declared.refusal.Refusal.{Refusal}
 use Rattle.ll_session.specs.declared.setup.Setup.{Setup}
 use Rattle.ll_wire.specs.Transcript.{Transcript, Writes}
 use Rattle.ll_wire.specs.declared.fault.SessionFault.{SessionFault}
@@ -19,7 +18,8 @@ use Rattle.ll_wire.specs.declared.fault.SessionFault.TheVariants.{Read, Write, N
 use Rattle.ll_session.specs.PartySession as at
 use Rattle.ll_session.specs.Session.{Answers, Tells}
 use Rattle.ll_session.specs.Opening.{begun, fresh, refused, Opens}
-use Rattle.ll_session.specs.Run.{Begins, BeginsBy, BeginsLines, BeginsRefusal, MayEnd, Runs, RunsAs}
+use Rattle.ll_session.specs.Run.{Begins, BeginsBy, BeginsLines, BeginsRefusal, IsOpened, MayEnd, Runs, RunsAs}
+use Rattle.ll_session.specs.Run.{refusal_in}
 use Rattle.ll_session.specs.Progress.{IsOfRefusal, RunsTo, StopsAt, without}
 use Rattle.ll_session.specs.Counts.{first_score, stop_at, stop_of}
 use Rattle.ll_session.specs.Strict.{RunsStrictly, TellsStrictly}
@@ -186,19 +186,20 @@ refusal_begins setup input text b = ([], [], pieces input, b.2, b.1, refl, inr (
 
 none_begins : (setup : Setup) (input text : List ℕ) → text ≡ [] → Begins setup input text
 none_begins setup input text none =
-    let line = reply_line (Refused errno.NoMemory) in (
+    let may = may_be_refused setup in
+    let line = reply_line may.0.reply in (
       [],
       [],
       pieces input,
       line,
       fresh setup,
       refl,
-      inr (Refused errno.NoMemory, may_be_refused setup, refl, ap (λ (x : List ℕ). x ++ line) none),
+      inr (may.0, may.1, refl, ap (λ (x : List ℕ). x ++ line) none),
     )
 
 begins : (setup : Setup) (fault : RunFault) (input text : List ℕ) → BeginsBy false setup fault input text
     → Begins setup input text
-begins setup Opening input text b = none_begins setup input text b
+begins setup (Opening refusal) input text b = none_begins setup input text b
 begins setup (Session Read) input text b = lines_begin setup input text b
 begins setup (Session Write) input text (inl b) = lines_begin setup input text b
 begins setup (Session Write) input text (inr b) = refusal_begins setup input text b
@@ -208,37 +209,73 @@ begins setup (Session TooLong) input text b = lines_begin setup input text b
 
 -- ---- runs whose opening is refused
 
-refusal_runs : (strict : Bool) (setup : Setup) (input : List ℕ) (left : Option (List ℕ)) (reply : Reply)
-    (last : at.Session) (entries : List Entry) → Opens setup (refused reply last) → left ≡ Some input
+refusal_runs : (strict : Bool) (setup : Setup) (input : List ℕ) (left : Option (List ℕ)) (refusal : Refusal)
+    (last : at.Session) (entries : List Entry) → Opens setup (refused refusal last) → left ≡ Some input
     → entries ≡ last.entries
-    → RunsAs strict setup input left (reply_line reply) (cond strict (Some (AtOpening reply)) None) entries
-refusal_runs false setup input left reply last entries is same ends =
-    (input, same, (last, inr (reply, is, refl, refl), ends))
-refusal_runs true setup input left reply last entries is same ends = (last, (is, refl), ends)
+    → RunsAs strict setup input left (reply_line refusal.reply) (cond strict (Some (AtOpening refusal)) None) entries
+refusal_runs false setup input left refusal last entries is same ends =
+    (input, same, (last, inr (refusal, is, refl, refl), ends))
+refusal_runs true setup input left refusal last entries is same ends = (last, (is, refl), ends)
 
-pub refusal : (strict : Bool) (setup : Setup) (old new : Devices) (reply : Reply) (entries : List Entry)
-    (stop : Option Stop) → stop ≡ cond strict (Some (AtOpening reply)) None
-    → AtEnd (λ t. Opens setup (refused reply t)) (λ s t. t ≡ s) entries
-    → Appends old.contents new.contents (reply_line reply) → new.remaining ≡ old.remaining
+-- the entries at the end are those that the refusal leaves
+left_so : (setup : Setup) (refusal : Refusal) (entries : List Entry)
+    → (e : AtEnd (λ t. Opens setup (refused refusal t)) (λ s t. t ≡ s) entries) → entries ≡ e.0.entries
+left_so setup refusal entries e = sym e.4 ∙ ap (λ (t : at.Session). t.entries) e.3
+
+pub refusal_told : (strict : Bool) (setup : Setup) (old new : Devices) (refusal : Refusal) (entries : List Entry)
+    (stop : Option Stop) → stop ≡ cond strict (Some (AtOpening refusal)) None
+    → AtEnd (λ t. Opens setup (refused refusal t)) (λ s t. t ≡ s) entries
+    → Appends old.contents new.contents (reply_line refusal.reply) → new.remaining ≡ old.remaining
     → IfKnown old new (λ input text. RunsAs strict setup input new.remaining text stop entries)
-refusal strict setup old new reply entries stop so e wrote still = some_is old.remaining _ (λ input told. (
-  reply_line reply,
-  subst (λ (o : Option Stop). RunsAs strict setup input new.remaining (reply_line reply) o entries) (sym so)
-      (refusal_runs strict setup input new.remaining reply e.0 entries e.2 (still ∙ told)
-      (sym e.4 ∙ ap (λ (t : at.Session). t.entries) e.3)),
+refusal_told strict setup old new refusal entries stop so e wrote still = some_is old.remaining _ (λ input told. (
+  reply_line refusal.reply,
+  subst (λ (o : Option Stop). RunsAs strict setup input new.remaining (reply_line refusal.reply) o entries) (sym so)
+      (refusal_runs strict setup input new.remaining refusal e.0 entries e.2 (still ∙ told)
+      (left_so setup refusal entries e)),
   wrote,
 ))
 
-pub refusal_stops : (strict : Bool) (setup : Setup) (fault : SessionFault) (old new : Devices) (reply : Reply)
-    (last : at.Session) → Opens setup (refused reply last)
-    → IsOfRefusal fault old.contents new.contents (reply_line reply)
+-- a run that is refused so has this refusal
+refusal_of : (strict : Bool) (refusal : Refusal)
+    → refusal_in (cond strict (Some (AtOpening refusal)) None) (cond strict None (Some refusal)) ≡ Some refusal
+refusal_of false refusal = refl
+refusal_of true refusal = refl
+
+pub opening_refused : (strict : Bool) (setup : Setup) (old new : Option (List ℕ)) (refusal : Refusal)
+    (entries : List Entry) (stop : Option Stop) (told : Option Refusal)
+    → stop ≡ cond strict (Some (AtOpening refusal)) None → told ≡ cond strict None (Some refusal)
+    → AtEnd (λ t. Opens setup (refused refusal t)) (λ s t. t ≡ s) entries → Appends old new (reply_line refusal.reply)
+    → IsOpened setup old new (refusal_in stop told) entries
+opening_refused strict setup old new refusal entries stop told so too e wrote =
+    subst (λ (o : Option Refusal). IsOpened setup old new o entries)
+    (sym (ap (λ (o : Option Stop). refusal_in o told) so
+    ∙ ap (refusal_in (cond strict (Some (AtOpening refusal)) None)) too ∙ refusal_of strict refusal))
+    (e.0, e.2, left_so setup refusal entries e, wrote)
+
+-- and one that is begun has none
+none_of : (lines : ℕ) (end : Option Reply) → refusal_in (stop_at lines end) None ≡ None
+none_of lines None = refl
+none_of lines (Some reply) = refl
+
+pub opening_begun : (setup : Setup) (old new : Option (List ℕ)) (entries : List Entry) (score : Score)
+    (stop : Option Stop) (told : Option Refusal) (first : at.Session) → stop ≡ stop_of score → told ≡ None
+    → Opens setup (begun first) → IsOpened setup old new (refusal_in stop told) entries
+opening_begun setup old new entries score stop told first so too is =
+    subst (λ (o : Option Refusal). IsOpened setup old new o entries)
+    (sym (ap (λ (o : Option Stop). refusal_in o told) so ∙ ap (refusal_in (stop_of score)) too
+    ∙ none_of score.tally.lines score.end))
+    (first, is)
+
+pub refusal_stops : (strict : Bool) (setup : Setup) (fault : SessionFault) (old new : Devices) (refusal : Refusal)
+    (last : at.Session) → Opens setup (refused refusal last)
+    → IsOfRefusal fault old.contents new.contents (reply_line refusal.reply)
     → IfKnown old new (BeginsBy strict setup (Session fault))
-refusal_stops strict setup Read old new reply last is wrote = absurd wrote
-refusal_stops strict setup Write old new reply last is wrote = some_is old.remaining _ (λ input told.
-    (wrote.0, inr (reply, last, wrote.1, is, wrote.2), wrote.3))
-refusal_stops strict setup NoMemory old new reply last is wrote =
+refusal_stops strict setup Read old new refusal last is wrote = absurd wrote
+refusal_stops strict setup Write old new refusal last is wrote = some_is old.remaining _ (λ input told.
+    (wrote.0, inr (refusal, last, wrote.1, is, wrote.2), wrote.3))
+refusal_stops strict setup NoMemory old new refusal last is wrote =
     some_is old.remaining _ (λ input told. ([], inl refl, wrote))
-refusal_stops strict setup TooLong old new reply last is wrote = absurd wrote
+refusal_stops strict setup TooLong old new refusal last is wrote = absurd wrote
 
 -- ---- runs that read and write nothing
 
@@ -255,13 +292,13 @@ may_begun setup Write first is = inl (first, is)
 may_begun setup NoMemory first is = tt
 may_begun setup TooLong first is = (first, is)
 
-pub may_refused : (setup : Setup) (fault : SessionFault) (old new : Option (List ℕ)) (line : List ℕ) (reply : Reply)
-    (last : at.Session) → Opens setup (refused reply last) → IsOfRefusal fault old new line
+pub may_refused : (setup : Setup) (fault : SessionFault) (old new : Option (List ℕ)) (line : List ℕ)
+    (refusal : Refusal) (last : at.Session) → Opens setup (refused refusal last) → IsOfRefusal fault old new line
     → MayEnd setup (Session fault)
-may_refused setup Read old new line reply last is wrote = absurd wrote
-may_refused setup Write old new line reply last is wrote = inr (reply, last, is)
-may_refused setup NoMemory old new line reply last is wrote = tt
-may_refused setup TooLong old new line reply last is wrote = absurd wrote
+may_refused setup Read old new line refusal last is wrote = absurd wrote
+may_refused setup Write old new line refusal last is wrote = inr (refusal, last, is)
+may_refused setup NoMemory old new line refusal last is wrote = tt
+may_refused setup TooLong old new line refusal last is wrote = absurd wrote
 
 -- with any fault, what was written is such a beginning
 pub of_err : {T : Type 0} (setup : Setup) (r : Result T RunFault) (remaining old new : Option (List ℕ))

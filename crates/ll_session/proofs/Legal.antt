@@ -1,7 +1,7 @@
 -- The entries of a run are a legal history.
 use Rattle.std.proofs.Common.{◌≡◌, ℕ, zero, suc, ◌-◌, true, false, true≢false, List, [], ◌∷◌, ◌++◌, ◌⊎◌, Some, refl}
 use Rattle.std.proofs.Common.{sym, ap, subst, ◌∙◌, inl, inr}
-use Rattle.std.specs.Prelude.{drop, length, slice_get, not, IfSome, Option, None}
+use Rattle.std.specs.Prelude.{◌==◌, Bool, drop, if◌then◌else◌, length, slice_get, not, IfSome, Option, None}
 use Rattle.std.specs.List.{AllByRecursion}
 use Rattle.std.specs.declared.alloc.Global.{Global}
 use Rattle.std.specs.declared.vec.Vec.{Vec}
@@ -24,9 +24,12 @@ use Rattle.ll_seq.proofs.Consequences.{step-clients_stay, step-spawned}
 use Rattle.ll_seq.proofs.Histories.{after_push, legal_append}
 use Rattle.ll_wire.specs.Grammar.{IsCall}
 use Rattle.ll_session.proofs.Comers.{connected_there}
+use Rattle.ll_session.specs.declared.refusal.Opener.{Opener}
+use Rattle.ll_session.specs.declared.refusal.Opener.TheVariants.{Loader, Profile}
+use Rattle.ll_session.specs.declared.refusal.Refusal.{Refusal}
 use Rattle.ll_session.specs.declared.setup.Setup.{Setup}
 use Rattle.ll_session.specs.PartySession.{following, joined}
-use Rattle.ll_session.specs.Opening.{Comes, Loads, Makes, Opens, Stops, begun, fresh, made, refused}
+use Rattle.ll_session.specs.Opening.{Comes, EndsOpening, Loads, Makes, Opens, Stops, begun, fresh, made, refused}
 use Rattle.ll_session.specs.Opening.{unconnected, unmade}
 use Rattle.ll_session.specs.Run.{RunsLegally}
 use Rattle.ll_wire.specs.Transcript.{Transcript}
@@ -232,24 +235,26 @@ module _ (empty : State) where
       by_makes (following s) (joined s h.0) t list (recursion_from_All (λ call. is_connect call ≡ false) list others)
       came.1 h.2 came.0
 
-  by_stops : (client : ℕ) (s t : Session) (list : List Call) (reply : Reply)
+  by_stops : (client : ℕ) (s t : Session) (list : List Call) (number : ℕ) (reply : Reply)
       → AllByRecursion (λ call. is_connect call ≡ false) list → has s.tree.clients client ≡ true
-      → Stops client s list reply t
+      → Stops client s list number reply t
       → IsSound empty s → IsSound empty t
-  by_stops client s t [] reply others there h sound = absurd h
-  by_stops client s t (call ∷ rest) reply others there h sound =
+  by_stops client s t [] number reply others there h sound = absurd h
+  by_stops client s t (call ∷ rest) number reply others there h sound =
       let mid = by_call s h.1 client call h.0 others.0 there h.2 sound in elim h.3 [
-        | inl now ↦ subst (IsSound empty) (sym now.2) mid
-        | inr later ↦ by_stops client h.1 t rest reply others.1 (stays s h.1 client client call h.0 h.2 there) later.1
-            mid
+        | inl now ↦ subst (IsSound empty) (sym now.3) mid
+        | inr later ↦ by_stops client h.1 t rest later.1 reply others.1
+            (stays s h.1 client client call h.0 h.2 there) later.3 mid
       ]
 
-  by_refusal : (s t : Session) (list : List Call) (reply : Reply) → AreOthers list → Comes s list (unconnected reply t)
-      ⊎ Comes s list (unmade reply t) → IsSound empty s → IsSound empty t
-  by_refusal s t list reply others (inl h) sound = subst (IsSound empty) (sym h.3) sound
-  by_refusal s t list reply others (inr h) sound =
+  -- whether its connect is refused or a call
+  by_refusal : (s t : Session) (list : List Call) (number : ℕ) (reply : Reply) (at_connect : Bool) → AreOthers list
+      → Comes s list (if at_connect then unconnected reply t else unmade number reply t)
+      → IsSound empty s → IsSound empty t
+  by_refusal s t list number reply true others h sound = subst (IsSound empty) (sym h.3) sound
+  by_refusal s t list number reply false others h sound =
       let came = by_connect s h.0 (following s) Connect Done refl refl h.1.0 h.1.1 sound in
-      by_stops (following s) (joined s h.0) t list reply
+      by_stops (following s) (joined s h.0) t list number reply
       (recursion_from_All (λ call. is_connect call ≡ false) list others) came.1 h.2 came.0
 
   by_answer : (s t : Session) (piece : List ℕ) (reply : Reply) → Answers s piece reply t → IsSound empty s
@@ -289,23 +294,31 @@ by_opening setup first h =
       there = those_left h.1.tree (length h.0.clients) h.1.clients came.there;
     })
 
-by_refused_loader : (empty : State) (s t : Session) (loader : Option (Vec Call Global)) (reply : Reply)
-    → IfSome loader (λ list. AreOthers list.items) → Loads s loader (unconnected reply t)
+by_refused_loader : (empty : State) (s t : Session) (loader : Option (Vec Call Global)) (number : ℕ) (reply : Reply)
+    (at_connect : Bool) → IfSome loader (λ list. AreOthers list.items)
+    → Loads s loader (if at_connect then unconnected reply t else unmade number reply t)
     → IsSound empty s → IsSound empty t
-by_refused_loader empty s t (Some list) reply others h sound =
-    by_refusal empty s t list.items reply others (inl h) sound
-by_refused_loader empty s t None reply others h sound = absurd h
+by_refused_loader empty s t (Some list) number reply at_connect others h sound =
+    by_refusal empty s t list.items number reply at_connect others h sound
+by_refused_loader empty s t None number reply true others h sound = absurd h
+by_refused_loader empty s t None number reply false others h sound = absurd h
 
-by_refused_opening : (setup : Setup) (reply : Reply) (last : Session) → Opens setup (refused reply last)
-    → IsSound (start setup.rules setup.nodes) last
-by_refused_opening setup reply last opens =
+by_opener : (setup : Setup) (opener : Opener) (number : ℕ) (reply : Reply) (at_connect : Bool) (last : Session)
+    → EndsOpening opener setup (if at_connect then unconnected reply last else unmade number reply last)
+    → IsSound (start setup.rules setup.nodes) (fresh setup) → IsSound (start setup.rules setup.nodes) last
+by_opener setup Loader number reply at_connect last h begins =
+    by_refused_loader (start setup.rules setup.nodes) (fresh setup) last setup.loader number reply at_connect
+    setup.loads h begins
+by_opener setup Profile number reply at_connect last h begins =
     let empty = start setup.rules setup.nodes in
-    let begins : IsSound empty (fresh setup) = record { legal = tt; tree = refl; there = tt } in
-    elim opens [
-      | inl h ↦ by_refused_loader empty (fresh setup) last setup.loader reply setup.loads h begins
-      | inr h ↦ by_refusal empty h.0 last setup.profile.items reply setup.makes h.2
-          (by_loading empty (fresh setup) h.0 setup.loader setup.loads h.1 begins)
-    ]
+    by_refusal empty h.0 last setup.profile.items number reply at_connect setup.makes h.2
+    (by_loading empty (fresh setup) h.0 setup.loader setup.loads h.1 begins)
+
+by_refused_opening : (setup : Setup) (refusal : Refusal) (last : Session) → Opens setup (refused refusal last)
+    → IsSound (start setup.rules setup.nodes) last
+by_refused_opening setup refusal last opens =
+    by_opener setup refusal.opener refusal.calls refusal.reply (refusal.calls == 0) last opens.1
+    (record { legal = tt; tree = refl; there = tt })
 
 pub legally : RunsLegally
 legally setup done left text last (inl h) =

@@ -5,8 +5,6 @@ use Rattle.std.specs.Prelude.{IfErr, OnErr, OnOk}
 use Rattle.std.specs.Io.KnownBytes.{Appends}
 use Rattle.ll_rights.specs.declared.errno.Errno.{Errno}
 use Rattle.ll_seq.specs.declared.call.Call.{Call}
-use Rattle.ll_seq.specs.declared.reply.Reply.{Reply}
-use Rattle.ll_seq.specs.declared.reply.Reply.TheVariants.{Refused}
 use Rattle.ll_client.specs.Coming.{HasNoPlace}
 use Rattle.ll_client.specs.Entries.{Knows}
 use Rattle.ll_wire.specs.Devices.{Devices, untouched}
@@ -16,6 +14,9 @@ use Rattle.ll_wire.specs.declared.fault.SessionFault.TheVariants.{Read, Write, N
 use Rattle.ll_session.specs.Beside.{AnswersBeside, MakesBeside, StopsBeside}
 use Rattle.ll_session.specs.Counts.{counted, first_score, nothing}
 use Rattle.ll_session.specs.Strict.{Scores, ScoresTo}
+use Rattle.ll_session.specs.Opening.{unconnected_by}
+use Rattle.ll_session.specs.declared.refusal.Opener.TheVariants.{Profile}
+use Rattle.ll_session.specs.declared.refusal.Refusal.{Refusal}
 use Rattle.ll_session.specs.declared.score.Score.{Score}
 use Rattle.ll_session.specs.declared.stream.Outcome.{Outcome}
 use Rattle.ll_session.specs.declared.tally.Tally.{Tally}
@@ -26,7 +27,7 @@ use Rattle.ll_wire.specs.Grammar.{reply_line}
 use Rattle.ll_session.specs.Visit.{HasCome, IsReady, IsTurnedAway, Starts, StartsBy, Visits}
 
 module _ (limit : ℕ) (profile : List Call) (old new : Devices) where
-  by_fault : (fault : SessionFault) (refusal : Option Reply) (tally : Tally) (ks : List Knows)
+  by_fault : (fault : SessionFault) (refusal : Option Refusal) (tally : Tally) (ks : List Knows)
       → Starts limit profile old new refusal tally ks → StartsBy limit profile fault old new refusal tally ks
   by_fault Read refusal tally ks h = h
   by_fault Write refusal tally ks h = h
@@ -54,44 +55,46 @@ module _ (limit : ℕ) (profile : List Call) (old new : Devices) where
         go (Err fault) h =
             by_fault fault None score.tally ks (first, ready, counts_some limit first ks score old new h)
 
-  module _ {A : Type 0} (refusal : Option Reply) (tally : Tally) (reply : Reply) (ks : List Knows)
-      (is : refusal ≡ Some reply) (one : tally ≡ counted nothing reply) (turned : IsTurnedAway limit profile reply ks)
+  module _ {A : Type 0} (told_so : Option Refusal) (tally : Tally) (refusal : Refusal) (ks : List Knows)
+      (is : told_so ≡ Some refusal) (one : tally ≡ counted nothing refusal.reply)
+      (turned : IsTurnedAway limit profile refusal ks)
       (same : new.remaining ≡ old.remaining) where
     -- the refusal is told
     pub turned_away : (told : Result A SessionFault)
-        → OnOk told (Appends old.contents new.contents (reply_line reply))
-        → OnOk told (Visits limit profile old new refusal tally ks)
+        → OnOk told (Appends old.contents new.contents (reply_line refusal.reply))
+        → OnOk told (Visits limit profile old new told_so tally ks)
     turned_away (Ok value) h =
-        subst (λ (o : Option Reply). Visits limit profile old new o tally ks) (sym is) (turned, one, same, h)
+        subst (λ (o : Option Refusal). Visits limit profile old new o tally ks) (sym is) (turned, one, same, h)
     turned_away (Err fault) h = tt
 
     -- a fault keeps it from being told
     pub cut_short : (told : Result A SessionFault)
-        → IfErr told (λ fault. IsOfRefusal fault old.contents new.contents (reply_line reply))
-        → IfErr told (λ fault. StartsBy limit profile fault old new refusal tally ks)
+        → IfErr told (λ fault. IsOfRefusal fault old.contents new.contents (reply_line refusal.reply))
+        → IfErr told (λ fault. StartsBy limit profile fault old new told_so tally ks)
     cut_short (Ok value) h = tt
     cut_short (Err Read) h = absurd h
     cut_short (Err Write) h =
-        subst (λ (o : Option Reply). Starts limit profile old new o tally ks) (sym is) (turned, one, same, h)
-    cut_short (Err NoMemory) h = inr (subst (λ (o : Option Reply). Starts limit profile old new o tally ks) (sym is)
-        (turned, one, same, ([], reply_line reply, refl, h)))
+        subst (λ (o : Option Refusal). Starts limit profile old new o tally ks) (sym is) (turned, one, same, h)
+    cut_short (Err NoMemory) h = inr (subst (λ (o : Option Refusal). Starts limit profile old new o tally ks) (sym is)
+        (turned, one, same, ([], reply_line refusal.reply, refl, h)))
     cut_short (Err TooLong) h = absurd h
 
 -- nobody comes for this reason
-pub no_place : (limit : ℕ) (profile : List Call) (errno : Errno) (ks : List Knows) → HasNoPlace errno → ks ≡ []
-    → IsTurnedAway limit profile (Refused errno) ks
-no_place limit profile errno ks h none = inl (errno, h, refl, none)
+pub no_place : (limit : ℕ) (profile : List Call) (refusal : Refusal) (errno : Errno) (ks : List Knows)
+    → refusal ≡ unconnected_by Profile errno → HasNoPlace errno → ks ≡ [] → IsTurnedAway limit profile refusal ks
+no_place limit profile refusal errno ks is h none = inl (errno, h, is, none)
 
 -- who has come alone is refused one of the calls of its profile
-pub stopped : (limit : ℕ) (profile : List Call) (me : Knows) (party : List Knows) (reply : Reply)
-    (ks left : List Knows) → HasCome me → party ≡ me ∷ [] → left ≡ ks → StopsBeside limit party 0 profile reply ks
-    → IsTurnedAway limit profile reply left
-stopped limit profile me party reply ks left come is same h =
+pub stopped : (limit : ℕ) (profile : List Call) (me : Knows) (party : List Knows) (refusal : Refusal)
+    (ks left : List Knows) → HasCome me → party ≡ me ∷ [] → left ≡ ks → refusal.opener ≡ Profile
+    → StopsBeside limit party 0 profile refusal.calls refusal.reply ks → IsTurnedAway limit profile refusal left
+stopped limit profile me party refusal ks left come is same who h =
     inr (
+      who,
       me,
       come,
-      subst (λ (last : List Knows). StopsBeside limit (me ∷ []) 0 profile reply last) (sym same)
-          (subst (λ (first : List Knows). StopsBeside limit first 0 profile reply ks) is h),
+      subst (λ (last : List Knows). StopsBeside limit (me ∷ []) 0 profile refusal.calls refusal.reply last) (sym same)
+          (subst (λ (first : List Knows). StopsBeside limit first 0 profile refusal.calls refusal.reply ks) is h),
     )
 
 -- the client has come alone, and makes the calls of its profile
@@ -106,7 +109,7 @@ both P Q (Ok value) p q = tt
 both P Q (Err fault) p q = (p, q)
 
 -- what `WasServedSo` says of a stream, by what was left of it and written before and is afterwards
-abbrev pub IsServed : (limit : ℕ) → (profile : List Call) → Outcome → Option Reply
+abbrev pub IsServed : (limit : ℕ) → (profile : List Call) → Outcome → Option Refusal
     → (left written left' written' : Option (List ℕ)) → List Knows → Type 0
 IsServed limit profile outcome refusal left written left' written' ks =
     let old = untouched left written true in
@@ -116,7 +119,7 @@ IsServed limit profile outcome refusal left written left' written' ks =
     (λ fault. StartsBy limit profile fault old new refusal outcome.tally ks × Blames fault old new)
 
 -- by a reader and a writer, with an equal profile
-pub served_so : (limit : ℕ) (copy profile : List Call) (outcome : Outcome) (refusal : Option Reply)
+pub served_so : (limit : ℕ) (copy profile : List Call) (outcome : Outcome) (refusal : Option Refusal)
     (left written : Option (List ℕ)) (new : Devices) (ks : List Knows) → copy ≡ profile
     → OnOk outcome.ended (Visits limit copy (untouched left written true) new refusal outcome.tally ks)
     → IfErr outcome.ended

@@ -47,10 +47,11 @@ MakesBeside limit ks place (call ∷ list) ks' =
     (reply : Reply) × (mid : List Knows) × AsksFor limit ks place call reply mid × (is_refusal reply ≡ false)
     × MakesBeside limit mid place list ks'
 
--- the first of them that is refused gets this reply
-abbrev pub StopsBeside : (limit : ℕ) → List Knows → (place : ℕ) → List Call → Reply → List Knows → Type 0
-StopsBeside limit ks place [] reply ks' = ⊥
-StopsBeside limit ks place (call ∷ list) reply ks' =
+-- the first of them that is refused is the one with this number, from 1, and gets this reply
+abbrev pub StopsBeside : (limit : ℕ) → List Knows → (place : ℕ) → List Call → (number : ℕ) → Reply → List Knows → Type 0
+StopsBeside limit ks place [] number reply ks' = ⊥
+StopsBeside limit ks place (call ∷ list) number reply ks' =
     (told : Reply) × (mid : List Knows) × AsksFor limit ks place call told mid
-    × (((is_refusal told ≡ true) × (reply ≡ told) × (ks' ≡ mid))
-    ⊎ ((is_refusal told ≡ false) × StopsBeside limit mid place list reply ks'))
+    × (((is_refusal told ≡ true) × (number ≡ 1) × (reply ≡ told) × (ks' ≡ mid))
+    ⊎ ((is_refusal told ≡ false) × (later : ℕ) × (number ≡ later + 1)
+    × StopsBeside limit mid place list later reply ks'))

@@ -28,14 +28,13 @@ Replied s (made ∷ calls) [] t = ⊥
 Replied s (made ∷ calls) (reply ∷ replies) t =
     (mid : Session) × Answers s (call_line made) reply mid × Replied mid calls replies t
 
--- The session is opened, and each call gets its reply; or the opening is refused with this reply. These entries are
--- left
+-- The session is opened, and each call gets its reply; or the opening is refused like this. These entries are left
 abbrev pub Makes : Setup → List ClientCall → CallReplies → List Entry → Type 0
 Makes setup calls (Answered replies) entries =
     (first last : Session) × Opens setup (begun first) × Replied first calls replies.items last
     × (entries ≡ last.entries)
-Makes setup calls (Refused reply) entries =
-    (last : Session) × Opens setup (refused reply last) × (entries ≡ last.entries)
+Makes setup calls (Refused refusal) entries =
+    (last : Session) × Opens setup (refused refusal last) × (entries ≡ last.entries)
 
 -- for the lines of the calls, a session writes the lines of the replies
 abbrev pub LinesGetTheReplies : Type 0

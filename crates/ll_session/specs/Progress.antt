@@ -6,8 +6,6 @@ use Rattle.std.specs.Io.KnownBytes.{Appends}
 use Rattle.ll_rights.specs.declared.errno.Errno.{Errno}
 use Rattle.ll_rights.specs.declared.errno.Errno.TheVariants as errnos
 use Rattle.ll_seq.specs.declared.reply.Entry.{Entry}
-use Rattle.ll_seq.specs.declared.reply.Reply.{Reply}
-use Rattle.ll_seq.specs.declared.reply.Reply.TheVariants as replies
 use Rattle.ll_seq.specs.declared.rules.Rules.{Rules}
 use Rattle.ll_client.specs.Closed.{IsClosed}
 use Rattle.ll_client.specs.Entries.{Knows}
@@ -19,32 +17,10 @@ use Rattle.ll_wire.specs.Writing.{AppendsFront}
 use Rattle.ll_session.specs.Between.{Leads}
 use Rattle.ll_session.specs.PartySession.{Session}
 use Rattle.ll_session.specs.Talk.{Goes, Looks, goes_on, nowhere, seen_by}
-use Rattle.ll_session.specs.declared.opening.Refusal.{Refusal}
-use Rattle.ll_session.specs.declared.opening.Refusal.TheVariants.{AtCall, AtConnect}
-use Rattle.ll_session.specs.declared.opening.Shut.{Shut}
-use Rattle.ll_session.specs.declared.opening.Shut.TheVariants as shut
-use Rattle.ll_session.specs.Opening.{Coming, Opening, refused, stopped, unconnected, unmade}
 use Rattle.ll_session.specs.Counts.{StaysAs, first_score}
 use Rattle.ll_session.specs.Session.{Answers}
 use Rattle.ll_session.specs.Strict.{Scores, ScoresTo}
 use Rattle.ll_session.specs.declared.score.Score.{Score}
-
--- ---- openings
-
--- the reply that kept a client from its calls
-abbrev pub reply_at : Refusal → Reply
-reply_at (AtConnect errno) = replies.Refused errno
-reply_at (AtCall reply) = reply
-
--- how the arrival of a client ends that this refusal keeps from its calls
-abbrev pub coming_at : Refusal → Session → Coming
-coming_at (AtConnect errno) t = unconnected (replies.Refused errno) t
-coming_at (AtCall reply) t = unmade reply t
-
--- how an opening ends that is refused like this
-abbrev pub opening_at : Shut → Session → Opening
-opening_at (shut.Refused reply) t = refused reply t
-opening_at shut.Stopped t = stopped
 
 -- ---- lines
 

@@ -84,8 +84,8 @@ RunsStrictlyOver setup pieces text None last =
 RunsStrictlyOver setup pieces text (Some (AtLine line reply)) last =
     (first : Session) × (done more : List (List ℕ)) × Opens setup (begun first) × (pieces ≡ done ++ more)
     × (line ≡ length done) × Transcript TellsStrictly (first, None) done text (last, Some reply)
-RunsStrictlyOver setup pieces text (Some (AtOpening reply)) last =
-    Opens setup (refused reply last) × (text ≡ reply_line reply)
+RunsStrictlyOver setup pieces text (Some (AtOpening refusal)) last =
+    Opens setup (refused refusal last) × (text ≡ reply_line refusal.reply)
 
 -- a strict run leaves these entries
 abbrev pub RunsStrictly : Setup → (input text : List ℕ) → Option Stop → List Entry → Type 0

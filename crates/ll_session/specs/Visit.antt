@@ -5,14 +5,16 @@ use Rattle.std.specs.Io.KnownBytes.{Appends}
 use Rattle.ll_rights.specs.declared.errno.Errno.{Errno}
 use Rattle.ll_seq.specs.declared.call.Call.{Call}
 use Rattle.ll_seq.specs.declared.call.Call.TheVariants.{Connect}
-use Rattle.ll_seq.specs.declared.reply.Reply.{Reply}
-use Rattle.ll_seq.specs.declared.reply.Reply.TheVariants.{Done, Refused}
+use Rattle.ll_seq.specs.declared.reply.Reply.TheVariants.{Done}
 use Rattle.ll_client.specs.Coming.{HasNoPlace}
 use Rattle.ll_client.specs.Entries.{Knows, knows, numbered}
 use Rattle.ll_wire.specs.Devices.{Devices, untouched}
 use Rattle.ll_wire.specs.Reached.{AnswersAll, Blames, StartsAll}
 use Rattle.ll_wire.specs.declared.fault.SessionFault.{SessionFault}
 use Rattle.ll_wire.specs.declared.fault.SessionFault.TheVariants as fault
+use Rattle.ll_session.specs.Opening.{unconnected_by}
+use Rattle.ll_session.specs.declared.refusal.Opener.TheVariants.{Profile}
+use Rattle.ll_session.specs.declared.refusal.Refusal.{Refusal}
 use Rattle.ll_session.specs.declared.stream.Stream.{Stream}
 use Rattle.ll_session.specs.Beside.{CountsBeside, MakesBeside, StopsBeside}
 use Rattle.ll_session.specs.Counts.{counted, nothing}
@@ -30,37 +32,38 @@ module _ (limit : ℕ) (profile : List Call) where
   abbrev pub IsReady : List Knows → Type 0
   IsReady ks = (me : Knows) × HasCome me × MakesBeside limit (me ∷ []) 0 profile ks
 
-  -- its connect is refused with this reply, and there is no client; or one of the profile's calls is
-  abbrev pub IsTurnedAway : Reply → List Knows → Type 0
-  IsTurnedAway reply ks =
-      ((errno : Errno) × HasNoPlace errno × (reply ≡ Refused errno) × (ks ≡ []))
-      ⊎ ((me : Knows) × HasCome me × StopsBeside limit (me ∷ []) 0 profile reply ks)
+  -- its connect is refused like this, and there is no client; or one of the profile's calls is
+  abbrev pub IsTurnedAway : Refusal → List Knows → Type 0
+  IsTurnedAway refusal ks =
+      ((errno : Errno) × HasNoPlace errno × (refusal ≡ unconnected_by Profile errno) × (ks ≡ []))
+      ⊎ ((refusal.opener ≡ Profile) × (me : Knows) × HasCome me
+      × StopsBeside limit (me ∷ []) 0 profile refusal.calls refusal.reply ks)
 
   -- a whole visit answered all that it read, and counted it; or it read nothing and wrote the refusal
-  abbrev pub Visits : (old new : Devices) → Option Reply → Tally → List Knows → Type 0
+  abbrev pub Visits : (old new : Devices) → Option Refusal → Tally → List Knows → Type 0
   Visits old new None tally ks =
       (first : List Knows) × IsReady first × AnswersAll (CountsBeside limit 0) (first, nothing) (ks, tally) old new
-  Visits old new (Some reply) tally ks =
-      IsTurnedAway reply ks × (tally ≡ counted nothing reply) × (new.remaining ≡ old.remaining)
-      × Appends old.contents new.contents (reply_line reply)
+  Visits old new (Some refusal) tally ks =
+      IsTurnedAway refusal ks × (tally ≡ counted nothing refusal.reply) × (new.remaining ≡ old.remaining)
+      × Appends old.contents new.contents (reply_line refusal.reply)
 
   -- a visit that a fault ended answered some first lines, or wrote a prefix of the refusal
-  abbrev pub Starts : (old new : Devices) → Option Reply → Tally → List Knows → Type 0
+  abbrev pub Starts : (old new : Devices) → Option Refusal → Tally → List Knows → Type 0
   Starts old new None tally ks =
       (first : List Knows) × IsReady first × StartsAll (CountsBeside limit 0) (first, nothing) (ks, tally) old new
-  Starts old new (Some reply) tally ks =
-      IsTurnedAway reply ks × (tally ≡ counted nothing reply) × (new.remaining ≡ old.remaining)
-      × AppendsFront old.contents new.contents (reply_line reply)
+  Starts old new (Some refusal) tally ks =
+      IsTurnedAway refusal ks × (tally ≡ counted nothing refusal.reply) × (new.remaining ≡ old.remaining)
+      × AppendsFront old.contents new.contents (reply_line refusal.reply)
 
   -- it ended with this fault. Before any client comes, memory may run out
-  abbrev pub StartsBy : SessionFault → (old new : Devices) → Option Reply → Tally → List Knows → Type 0
+  abbrev pub StartsBy : SessionFault → (old new : Devices) → Option Refusal → Tally → List Knows → Type 0
   StartsBy fault.NoMemory old new refusal tally ks =
       ((ks ≡ []) × (new ≡ old) × (refusal ≡ None) × (tally ≡ nothing)) ⊎ Starts old new refusal tally ks
   StartsBy other old new refusal tally ks = Starts old new refusal tally ks
 
-  -- A stream was served and ended like this, with these clients, or its client was turned away with this reply. It is
+  -- A stream was served and ended like this, with these clients, or its client was turned away with this refusal. It is
   -- stated by what its reader has left and its writer has written
-  abbrev pub WasServedSo : {R W : Type 0} → (R → Option (List ℕ)) → (W → Option (List ℕ)) → Outcome → Option Reply
+  abbrev pub WasServedSo : {R W : Type 0} → (R → Option (List ℕ)) → (W → Option (List ℕ)) → Outcome → Option Refusal
       → (came went : Stream R W) → List Knows → Type 0
   WasServedSo remaining contents outcome refusal came went ks =
       let old = untouched (remaining came.reader) (contents came.writer) true in
@@ -72,4 +75,4 @@ module _ (limit : ℕ) (profile : List Call) where
   abbrev pub WasServed : {R W : Type 0} → (R → Option (List ℕ)) → (W → Option (List ℕ)) → Outcome
       → (came went : Stream R W) → List Knows → Type 0
   WasServed remaining contents outcome came went ks =
-      (refusal : Option Reply) × WasServedSo remaining contents outcome refusal came went ks
+      (refusal : Option Refusal) × WasServedSo remaining contents outcome refusal came went ks

@@ -10,7 +10,7 @@ ghost use Rattle.ll_session.specs.Run.{MayEnd};
 
 use crate::client_call::ClientCall;
 use crate::fault::RunFault;
-use crate::opening::Shut;
+use crate::refusal::Refusal;
 use crate::setup::Setup;
 use crate::shared::Shared;
 use ll_client::{Account, Blank, Shape};
@@ -26,8 +26,8 @@ use std::sync::Wait;
 pub enum CallReplies {
     /// The replies to the calls, in their order.
     Answered(Vec<Reply>),
-    /// No call was made: a connect or a profile's call got this refusal.
-    Refused(Reply),
+    /// No call was made: a connect or a profile's call is refused like this.
+    Refused(Refusal),
 }
 
 // Returns the reply as a session with this many clients gets it: the newest client is named by its place.
@@ -132,15 +132,13 @@ fn run_calls_in<N: Shape, R: Wait>(
             Ok((replies, history)) => Ok((CallReplies::Answered(replies), history)),
             Err(_) => Err(RunFault::Session(SessionFault::NoMemory)),
         },
-        Err(shut) => {
+        Err(refusal) => {
             let history = shared.close(rt);
-            match shut {
-                Shut::Refused(reply) => Ok((CallReplies::Refused(reply), history)),
-                Shut::Stopped => {
-                    drop(history);
-                    Err(RunFault::Opening)
-                }
+            if !refusal.is_told() {
+                drop(history);
+                return Err(RunFault::Opening(refusal));
             }
+            Ok((CallReplies::Refused(refusal), history))
         }
     }
 }

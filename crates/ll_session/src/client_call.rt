@@ -6,7 +6,6 @@ ghost use Rattle.ll_seq.specs.History.{is_connect};
 ghost use Rattle.ll_wire.specs.Grammar.{call_tokens, client_tokens, line_of};
 ghost use Rattle.ll_wire.specs.declared.read.TheConstants.{LINE_LIMIT};
 
-use crate::copies::copy_call;
 use ll_seq::Call;
 use std::alloc::{AllocError, Global};
 
@@ -26,7 +25,7 @@ impl ClientCall {
     pub fn copy(&self, alloc: Global) -> Result<ClientCall, AllocError>
         ensures { IfOk result (λ copy. copy ≡ self.now) }
     {
-        let call = copy_call(alloc, &self.call)?;
+        let call = self.call.copy(alloc)?;
         Ok(ClientCall {
             client: self.client,
             call,

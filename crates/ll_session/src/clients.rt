@@ -61,7 +61,7 @@ pub(crate) fn meet_all<N: Shape, R: Wait, G: Gate<N>>(
 }
 
 /// Closes the tree and returns its history. It must have exactly these clients.
-pub(crate) fn close_all<N: Shape, R: Wait, G: Gate<N>>(
+pub fn close_all<N: Shape, R: Wait, G: Gate<N>>(
     rt: &R,
     tree: Tree<N, G>,
     clients: Vec<Client<N>>,

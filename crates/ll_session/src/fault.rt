@@ -2,6 +2,7 @@
 
 ghost use Rattle.std.specs.Prelude.{◌≡◌};
 
+use crate::refusal::Refusal;
 use ll_wire::SessionFault;
 use thiserror::Error;
 
@@ -9,7 +10,7 @@ use thiserror::Error;
 #[derive(Debug, Drop, Error)]
 pub enum RunFault {
     #[error("a call of the opening is refused")]
-    Opening,
+    Opening(Refusal),
     #[error("{0}")]
     Session(SessionFault),
 }

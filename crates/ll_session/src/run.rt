@@ -1,7 +1,7 @@
 //! Runs of scripts.
 
-ghost use Rattle.std.specs.Prelude.{◌≡◌, ◌+◌, ◌<◌, ◌≤◌, ◌^◌, false, length, All, IfOk, IfErr, ℕ, List, OnOk, OnErr};
-ghost use Rattle.std.specs.Prelude.{IfSome, None, Some, Err, cond};
+ghost use Rattle.std.specs.Prelude.{◌≡◌, ◌+◌, ◌<◌, ◌≤◌, ◌^◌, true, false, length, All, IfOk, IfErr, ℕ, List, OnOk};
+ghost use Rattle.std.specs.Prelude.{IfSome, None, OnErr, Some, Err};
 ghost use Rattle.std.specs.Io.KnownBytes.{Appends};
 ghost use Rattle.ll_rights.specs.declared.limits.TheConstants.{TREE_CLIENTS};
 ghost use Rattle.ll_seq.specs.History.{IsLegal};
@@ -12,11 +12,10 @@ ghost use Rattle.ll_wire.specs.Entries.{IsEntry};
 ghost use Rattle.ll_wire.specs.Grammar.{reply_line};
 ghost use Rattle.ll_session.specs.declared.fault.RunFault.{RunFault};
 ghost use Rattle.ll_session.specs.declared.score.Score.{Score};
-ghost use Rattle.ll_session.specs.declared.stop.Stop.{Stop};
 ghost use Rattle.ll_wire.specs.declared.fault.SessionFault.{SessionFault};
 ghost use Rattle.ll_wire.specs.Transcript.{Writes, most_reads};
 ghost use Rattle.ll_session.specs.Counts.{stop_of};
-ghost use Rattle.ll_session.specs.Run.{Begins, BeginsBy, EndsBy, MayEnd, Runs, RunsAs};
+ghost use Rattle.ll_session.specs.Run.{Begins, BeginsBy, EndsBy, IsOpened, MayEnd, Runs, RunsAs, refusal_in};
 ghost use Rattle.ll_wire.specs.Devices.{IsWhole};
 ghost use Rattle.ll_wire.specs.Reached.{Blames};
 ghost use Rattle.ll_session.specs.Progress.{Closes, IsOfRefusal, RunsTo, StopsAt};
@@ -24,12 +23,11 @@ ghost use Rattle.ll_session.specs.Progress.{Closes, IsOfRefusal, RunsTo, StopsAt
 use crate::answering::OpenSession;
 use crate::fault::RunFault;
 use crate::keeper::{Keeps, Kept, NoKeeper};
-use crate::opening::Shut;
 use crate::output::tell_reply;
 use crate::scored::session;
 use crate::setup::Setup;
 use crate::shared::Shared;
-use crate::stop::{Run, Stop};
+use crate::stop::Run;
 use ll_client::{Account, Blank, Shape};
 use ll_seq::{History, Reply};
 use ll_wire::{Ends, Pair, SessionFault};
@@ -66,6 +64,7 @@ fn run_session<N: Shape, R: Wait, K: Keeps, E: Ends>(
         × Closes N.rules room N.limit shared.party entries
         (StopsAt before manner.now.is_strict (E.devices ends.old) (E.devices ends.new))) }
     ensures lax { IfOk result (λ run. manner.now.is_strict ≡ false → run.stop ≡ None) }
+    ensures begun { IfOk result (λ run. run.refusal ≡ None) }
     ensures entries { IfOk result (λ run. All IsEntry run.history.entries) }
     ensures fault { IfErr result (λ fault. Blames fault (E.devices ends.old) (E.devices ends.new)) }
     ensures long { result ≡ Err SessionFault.TooLong
@@ -88,6 +87,7 @@ fn run_session<N: Shape, R: Wait, K: Keeps, E: Ends>(
         Ok(()) => Ok(Run {
             history,
             stop: score.into_stop(),
+            refusal: None,
         }),
         Err(fault) => {
             drop(history);
@@ -128,17 +128,6 @@ fn tell_refusal<N: Shape, R: Wait, K: Keeps, E: Ends>(
     Ok(history)
 }
 
-// Returns what ends a run whose opening got this refusal, if it is strict.
-fn at_opening(is_strict: bool, reply: Reply) -> Option<Stop>
-    ensures { result ≡ cond is_strict (Some (Stop.AtOpening reply)) None }
-{
-    if is_strict {
-        return Some(Stop::AtOpening(reply));
-    }
-    drop(reply);
-    None
-}
-
 // Does what `run_over` does, on a tree with this blank.
 fn run_in<N: Shape, R: Wait, K: Keeps, E: Ends>(
     rt: &R,
@@ -159,6 +148,10 @@ fn run_in<N: Shape, R: Wait, K: Keeps, E: Ends>(
         Writes (E.devices ends.old).contents (E.devices ends.new).contents (λ text.
         RunsAs manner.now.is_strict setup input (E.devices ends.new).remaining text run.stop run.history.entries))) }
     ensures lax { IfOk result (λ run. manner.now.is_strict ≡ false → run.stop ≡ None) }
+    ensures strict { IfOk result (λ run. manner.now.is_strict ≡ true → run.refusal ≡ None) }
+    ensures opening { IfOk result (λ run.
+        IsOpened setup (E.devices ends.old).contents (E.devices ends.new).contents (refusal_in run.stop run.refusal)
+        run.history.entries) }
     ensures legal { IfOk result (λ run. IsLegal (start setup.rules setup.nodes) run.history.entries) }
     ensures entries { IfOk result (λ run. All IsEntry run.history.entries) }
     ensures beginning { IfErr result (λ fault. IfSome (E.devices ends.old).remaining (λ input.
@@ -175,14 +168,13 @@ fn run_in<N: Shape, R: Wait, K: Keeps, E: Ends>(
     };
     match shared.open(rt, setup) {
         Ok(before) => Ok(run_session(rt, alloc, shared, before, manner, ends)?),
-        Err(Shut::Refused(reply)) => {
-            let history = tell_refusal(rt, alloc, shared, manner.keeper, &reply, ends)?;
-            let stop = at_opening(manner.is_strict, reply);
-            Ok(Run { history, stop })
-        }
-        Err(Shut::Stopped) => {
-            drop(shared.close_kept(rt, manner.keeper));
-            Err(RunFault::Opening)
+        Err(refusal) => {
+            if !refusal.is_told() {
+                drop(shared.close_kept(rt, manner.keeper));
+                return Err(RunFault::Opening(refusal));
+            }
+            let history = tell_refusal(rt, alloc, shared, manner.keeper, &refusal.reply, ends)?;
+            Ok(Run::refused(history, manner.is_strict, refusal))
         }
     }
 }
@@ -206,6 +198,10 @@ pub fn run_over<R: Wait, K: Keeps, E: Ends>(
         Writes (E.devices ends.old).contents (E.devices ends.new).contents (λ text.
         RunsAs manner.now.is_strict setup input (E.devices ends.new).remaining text run.stop run.history.entries))) }
     ensures lax { IfOk result (λ run. manner.now.is_strict ≡ false → run.stop ≡ None) }
+    ensures strict { IfOk result (λ run. manner.now.is_strict ≡ true → run.refusal ≡ None) }
+    ensures opening { IfOk result (λ run.
+        IsOpened setup (E.devices ends.old).contents (E.devices ends.new).contents (refusal_in run.stop run.refusal)
+        run.history.entries) }
     ensures legal { IfOk result (λ run. IsLegal (start setup.rules setup.nodes) run.history.entries) }
     ensures entries { IfOk result (λ run. All IsEntry run.history.entries) }
     // After a fault, what was written is a prefix of the transcript of some first pieces, or of a refusal.

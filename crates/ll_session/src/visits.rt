@@ -16,13 +16,14 @@ ghost use Rattle.ll_session.specs.Visit.{HasCome, StartsBy, Visits, WasServedSo}
 
 use crate::copies::copy_calls;
 use crate::host::Host;
+use crate::refusal::{Opener, Refusal};
 use crate::stream::{Outcome, Served, Stream};
 use crate::{
     Gate, Keeps, Kept, OpenSession, Party, Score, Tally, Tree, make_calls, session, tell_reply,
 };
 use ll_client::{Client, Shape};
 use ll_rights::Errno;
-use ll_seq::{Call, Reply};
+use ll_seq::Call;
 use ll_wire::{Ends, Pair, SessionFault};
 use std::alloc::Global;
 use std::io::{Read, Write};
@@ -40,13 +41,9 @@ fn come<N: Shape, H: Wait, G: Gate<N>>(
     ensures err { IfErr result HasNoPlace }
     ensures none { OnErr result (party.new ≡ []) }
 {
-    match tree.connect(rt) {
-        Ok(client) => {
-            party.add(rt, client);
-            Ok(())
-        }
-        Err(errno) => Err(errno),
-    }
+    let client = tree.connect(rt)?;
+    party.add(rt, client);
+    Ok(())
 }
 
 // Writes the line of the refusal that keeps a session from beginning, after everything that its clients know of was
@@ -56,27 +53,28 @@ fn turn_away<N: Shape, H: Wait, G: Gate<N>, K: Keeps, E: Ends>(
     alloc: Global,
     host: &Host<N, G, K>,
     party: Party<N>,
-    reply: Reply,
+    refusal: Refusal,
     ends: &mut E,
-) -> (Vec<Client<N>>, Outcome, Option<Reply>)
+) -> (Vec<Client<N>>, Outcome, Option<Refusal>)
     requires { IsWhole (E.devices ends.old) }
     ensures clients { map (λ c. c.rider) result.0.items ≡ party }
     ensures ok { OnOk result.1.ended (Appends (E.devices ends.old).contents (E.devices ends.new).contents
-        (reply_line reply)) }
+        (reply_line refusal.reply)) }
     ensures err { IfErr result.1.ended (λ fault. IsOfRefusal fault (E.devices ends.old).contents
-        (E.devices ends.new).contents (reply_line reply)) }
-    ensures tally { result.1.tally ≡ counted nothing reply }
-    ensures refusal { result.2 ≡ Some reply }
+        (E.devices ends.new).contents (reply_line refusal.reply)) }
+    ensures tally { result.1.tally ≡ counted nothing refusal.reply }
+    ensures refusal { result.2 ≡ Some refusal }
     ensures fault { IfErr result.1.ended (λ fault. Blames fault (E.devices ends.old) (E.devices ends.new)) }
     ensures remaining { (E.devices ends.new).remaining ≡ (E.devices ends.old).remaining }
     ensures same { E.names ends.new ≡ E.names ends.old }
 {
     let mut party = party;
     let kept = host.keeper.keep(rt, host.tree, &mut party);
-    let ended = tell_reply(alloc, &reply, &party, kept, ends);
+    let ended = tell_reply(alloc, &refusal.reply, &party, kept, ends);
     let mut tally = Tally::nothing();
-    tally.count(&reply);
-    (party.into_clients(), Outcome { tally, ended }, Some(reply))
+    tally.count(&refusal.reply);
+    let outcome = Outcome { tally, ended };
+    (party.into_clients(), outcome, Some(refusal))
 }
 
 // Returns the outcome of a session that ended at this point.
@@ -97,7 +95,7 @@ pub fn visit<N: Shape, H: Wait, G: Gate<N>, K: Keeps, E: Ends>(
     host: &Host<N, G, K>,
     profile: Vec<Call>,
     ends: &mut E,
-) -> (Vec<Client<N>>, Outcome, Option<Reply>)
+) -> (Vec<Client<N>>, Outcome, Option<Refusal>)
     requires calls { AreOthers profile.items }
     requires whole { IsWhole (E.devices ends.old) }
     requires answered { (E.devices ends.old).owed ≡ 0 }
@@ -123,9 +121,10 @@ pub fn visit<N: Shape, H: Wait, G: Gate<N>, K: Keeps, E: Ends>(
     };
     if let Err(errno) = come(rt, host.tree, &mut party) {
         drop(profile);
-        return turn_away(rt, alloc, host, party, Reply::Refused(errno), ends);
+        let refusal = Refusal::at_connect(Opener::Profile, errno);
+        return turn_away(rt, alloc, host, party, refusal, ends);
     }
-    match make_calls(rt, host.tree, &mut party, 0, profile) {
+    match make_calls(rt, host.tree, &mut party, 0, Opener::Profile, profile) {
         Ok(()) => {
             let open = OpenSession {
                 rt,
@@ -139,7 +138,7 @@ pub fn visit<N: Shape, H: Wait, G: Gate<N>, K: Keeps, E: Ends>(
             let (party, score, ended) = session(open, false, ends);
             (party.into_clients(), answered(score, ended), None)
         }
-        Err(reply) => turn_away(rt, alloc, host, party, reply, ends),
+        Err(refusal) => turn_away(rt, alloc, host, party, refusal, ends),
     }
 }
 
@@ -149,7 +148,7 @@ fn serve_ends<N: Shape, G: Gate<N>, K: Keeps, H: Wait, R: Read, W: Write>(
     alloc: Global,
     host: &Host<N, G, K>,
     stream: &mut Stream<R, W>,
-) -> (Vec<Client<N>>, Outcome, Option<Reply>)
+) -> (Vec<Client<N>>, Outcome, Option<Refusal>)
     ensures { WasServedSo N.limit host.now.profile.now R.remaining W.contents result.1 result.2 stream.old stream.new
         (map (λ c. c.rider) result.0.items) }
 {
@@ -170,14 +169,13 @@ fn serve_ends<N: Shape, G: Gate<N>, K: Keeps, H: Wait, R: Read, W: Write>(
     visit(rt, alloc, host, profile, &mut ends)
 }
 
-/// Serves one stream as `visit` does. Returns what is left of it, and the reply with which its client was turned away,
-/// if it was.
+/// Serves one stream as `visit` does. Returns what is left of it, and what its client was turned away with, if it was.
 pub fn serve_stream<N: Shape, G: Gate<N>, K: Keeps, H: Wait, R: Read, W: Write>(
     rt: &H,
     alloc: Global,
     host: &Host<N, G, K>,
     stream: &mut Stream<R, W>,
-) -> (Served<N, R, W>, Option<Reply>)
+) -> (Served<N, R, W>, Option<Refusal>)
     ensures served { WasServedSo N.limit host.now.profile.now R.remaining W.contents result.0.outcome result.1
         result.0.came.value result.0.went.value (map (λ c. c.rider) result.0.clients.items) }
     ensures came { result.0.came.value ≡ stream.old }

@@ -1,21 +1,20 @@
 //! Who is notified of streams.
 
+use crate::refusal::Refusal;
 use crate::stream::{Served, Stream};
 use ll_client::Shape;
-use ll_seq::Reply;
 
 /// Is notified of streams as they come and go.
 pub trait Watches<R, W> {
     /// The stream is about to be served.
     fn came(&self, stream: &Stream<R, W>);
 
-    /// The stream was served, and this is left of it. `refusal` is the reply with which its client was turned away, if
-    /// it was.
+    /// The stream was served, and this is left of it. `refusal` is what its client was turned away with, if it was.
     fn went<N: Shape>(
         &self,
         stream: &Stream<R, W>,
         served: &Served<N, R, W>,
-        refusal: Option<&Reply>,
+        refusal: Option<Refusal>,
     );
 }
 
@@ -32,7 +31,7 @@ impl<R, W> Watches<R, W> for Nobody {
         &self,
         stream: &Stream<R, W>,
         served: &Served<N, R, W>,
-        refusal: Option<&Reply>,
+        refusal: Option<Refusal>,
     ) {
         let _ = stream;
         let _ = served;

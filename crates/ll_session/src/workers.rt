@@ -93,7 +93,7 @@ fn work<
         };
         watch.came(&stream);
         let (served, refusal) = serve_stream(rt, alloc, host, &mut stream);
-        watch.went(&stream, &served, refusal.as_ref());
+        watch.went(&stream, &served, refusal);
         room.push_reserved(served);
     }
 }

@@ -3,13 +3,14 @@
 use ll_calls::{Gate, Tree};
 use ll_client::{Client, Shape};
 use ll_seq::History;
+use ll_session::dead_end;
 use std::alloc::Global;
 use std::sync::Wait;
 
 /// Appends the client. Waits forever if the list has no room for it.
 pub fn add<N: Shape>(rt: &impl Wait, clients: &mut Vec<Client<N>>, client: Client<N>) {
     if clients.len() >= clients.capacity() {
-        for _ in rt.forever() {}
+        dead_end(rt);
         unreachable!()
     }
     clients.push_reserved(client);
@@ -58,7 +59,7 @@ pub fn close<N: Shape, G: Gate<N>>(
     match tree.close(clients) {
         Ok(history) => history,
         Err(_back) => {
-            for _ in rt.forever() {}
+            dead_end(rt);
             unreachable!()
         }
     }

@@ -11,6 +11,7 @@ use ll_client::{
 use ll_journal::{Next, Progress};
 use ll_rights::{Abi, Kind};
 use ll_seq::{Call, ROOT, Reply, Rules};
+use ll_session::dead_end;
 use std::alloc::Global;
 use std::marker::Brand;
 use std::sync::{Mutex, Wait};
@@ -136,7 +137,7 @@ fn begins<N: Shape + Send>(rt: &impl Wait, alloc: Global, blank: Blank<Account>)
     let number = spare.number();
     let lock = Mutex::new(spare);
     if !makes_behind(rt, alloc, &tie, &mut desk, &mut rider, root, &lock, number) {
-        for _ in rt.forever() {}
+        dead_end(rt);
         unreachable!()
     }
     let spare = lock.into_inner();
@@ -151,7 +152,7 @@ fn begins<N: Shape + Send>(rt: &impl Wait, alloc: Global, blank: Blank<Account>)
     match close(&tie, desk, clients) {
         Ok(history) => { has_child && spare.inode() == ROOT + 1 && history.entries().len() == 3 }
         Err(_back) => {
-            for _ in rt.forever() {}
+            dead_end(rt);
             unreachable!()
         }
     }

@@ -5,7 +5,7 @@ ghost use Rattle.ll_rights.specs.declared.limits.TheConstants.{TREE_CLIENTS};
 
 use crate::calls::target;
 use crate::clients::{bring, close};
-use crate::watched::{TrialEnd, end_of_trial};
+use crate::watched::{TrialEnd, end_of_trial, waits_for};
 use ll_audit::audit;
 use ll_calls::{Refused, Tree};
 use ll_client::{Account, Blank, Client, Locked, Shape};
@@ -33,9 +33,6 @@ const WALKS: usize = 63;
 /// The maker's connect, its 63 directories and its file, 63 connects, a refused make, an unlink, a make, and 63 walks.
 const ENTRIES: usize = 194;
 
-/// The most times that a thread looks whether the others have come so far.
-const TURNS: u64 = 10_000_000;
-
 const ROOT: u64 = 1;
 
 /// The number of walks held in their directories, and whether they may go on.
@@ -49,17 +46,6 @@ struct Flags {
 #[derive(Drop)]
 struct Standing {
     flags: Arc<Flags, Global>,
-}
-
-/// Waits until the number is as great. Returns whether it is.
-fn waits_for(number: &AtomicU64, wanted: u64) -> bool {
-    for _ in 0..TURNS {
-        if number.load(Ordering::SeqCst) >= wanted {
-            return true;
-        }
-        thread::yield_now();
-    }
-    false
 }
 
 impl<N: Shape> Gate<N> for Standing {

@@ -5,7 +5,7 @@ ghost use Rattle.ll_rights.specs.declared.limits.TheConstants.{TREE_CLIENTS};
 
 use crate::calls::target;
 use crate::clients::{bring, close};
-use crate::watched::{TrialEnd, end_of_trial};
+use crate::watched::{TrialEnd, end_of_trial, waits_for};
 use ll_audit::audit;
 use ll_calls::{Refused, Tree};
 use ll_client::{Account, Blank, Client, Locked, Shape};
@@ -17,7 +17,7 @@ use std::marker::Brand;
 use std::sync::atomic::{AtomicU64, Ordering};
 use std::sync::{Arc, Wait};
 use std::test::*;
-use std::thread::{self, Threads, join};
+use std::thread::{Threads, join};
 
 const RULES: Rules = Rules {
     abi: Abi::NEWEST,
@@ -25,9 +25,6 @@ const RULES: Rules = Rules {
 };
 
 const NODES: usize = 8;
-
-/// The most times that a thread looks whether the other has come so far.
-const TURNS: u64 = 10_000_000;
 
 const ROOT: u64 = 1;
 
@@ -52,23 +49,12 @@ struct Holding {
     hold: Arc<Hold, Global>,
 }
 
-/// Waits until the flag is set. Returns whether it is.
-fn waits_for(flag: &AtomicU64) -> bool {
-    for _ in 0..TURNS {
-        if flag.load(Ordering::SeqCst) != 0 {
-            return true;
-        }
-        thread::yield_now();
-    }
-    false
-}
-
 impl<N: Shape> Gate<N> for Holding {
     fn held(&self, client: u64, inode: u64, slot: &Locked<N>) {
         let _ = slot;
         if client == HELD && inode == self.hold.inode {
             self.hold.is_held.store(1, Ordering::SeqCst);
-            if !waits_for(&self.hold.goes_on) {
+            if !waits_for(&self.hold.goes_on, 1) {
                 self.hold.is_late.store(1, Ordering::SeqCst);
             }
         }
@@ -120,7 +106,7 @@ fn goes_past<N: Shape>(
     me: &mut Client<N>,
     hold: &Hold,
 ) -> bool {
-    let is_held = waits_for(&hold.is_held);
+    let is_held = waits_for(&hold.is_held, 1);
     let is_made = stays(rt, tree, me) && (hold.inode == ROOT || changes(rt, alloc, tree, me));
     hold.goes_on.store(1, Ordering::SeqCst);
     is_held && is_made

@@ -13,6 +13,7 @@ use ll_client::{Account, Blank, Client, Shape};
 use ll_path::Target;
 use ll_rights::{Abi, Access, Errno, Kind};
 use ll_seq::{AccessMode, Creation, History, Mode, Rules};
+use ll_session::dead_end;
 use ll_walk::NoGate;
 use std::alloc::Global;
 use std::marker::Brand;
@@ -86,7 +87,7 @@ fn stays_open<N: Shape>(
 ) -> (Tree<N, NoGate>, Vec<Client<N>>) {
     match tree.close(clients) {
         Ok(_) => {
-            for _ in rt.forever() {}
+            dead_end(rt);
             unreachable!()
         }
         Err(back) => back,

@@ -13,9 +13,9 @@ use ll_audit::audit;
 use ll_calls::Tree;
 use ll_client::{Account, Blank, Client, Locked, Shape};
 use ll_rights::{Abi, Kind};
-use ll_seq::{Reply, Rules};
+use ll_seq::Rules;
 use ll_session::{
-    Host, NoKeeper, Served, Stream, Watches, add_all, gather, hand_over, serve_streams,
+    Host, NoKeeper, Refusal, Served, Stream, Watches, add_all, gather, hand_over, serve_streams,
 };
 use ll_walk::Gate;
 use std::alloc::Global;
@@ -120,7 +120,7 @@ impl Watches<Source<'static>, Paper> for Reader {
         &self,
         stream: &Stream<Source<'static>, Paper>,
         served: &Served<N, Source<'static>, Paper>,
-        refusal: Option<&Reply>,
+        refusal: Option<Refusal>,
     ) {
         let _ = refusal;
         let expected = if stream.number == 1 {

@@ -13,6 +13,20 @@ const LOOK: u64 = 100;
 /// The number of looks: 40 seconds. (The kit stops a test after 60.)
 const LOOKS: u64 = 400;
 
+/// The most times that a thread looks whether others have come so far.
+const TURNS: u64 = 10_000_000;
+
+/// Waits until the number is as great. Returns whether it is.
+pub fn waits_for(number: &AtomicU64, wanted: u64) -> bool {
+    for _ in 0..TURNS {
+        if number.load(Ordering::SeqCst) >= wanted {
+            return true;
+        }
+        thread::yield_now();
+    }
+    false
+}
+
 /// The end of a trial.
 #[derive(Clone, Copy, Debug, PartialEq, Eq)]
 pub enum TrialEnd {

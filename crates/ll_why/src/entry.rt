@@ -1,8 +1,8 @@
 //! Explains one entry of a history.
 
-ghost use Rattle.std.specs.Prelude.{◌≡◌, ◌<◌, ◌-◌, ◌++◌, ◌^◌, ◌↔◌, [], IfOk, IsTrue, string_bytes};
+ghost use Rattle.std.specs.Prelude.{◌≡◌, ◌<◌, ◌-◌, ◌++◌, ◌^◌, [], IfOk, string_bytes};
 ghost use Rattle.std.specs.Option.{option_map_or};
-ghost use Rattle.ll_seq.specs.History.{MayStand, is_connect};
+ghost use Rattle.ll_seq.specs.History.{MayStand};
 ghost use Rattle.ll_why.specs.Entries.{IsStanding, entry_lines, entry_text, standing_line};
 ghost use Rattle.ll_why.specs.Explained.{IsExplained};
 ghost use Rattle.ll_why.specs.Told.{told_text};
@@ -12,7 +12,7 @@ use crate::entry_json::entry_json;
 use crate::explanation::{Explanation, call_line, explain};
 use crate::text::concat;
 use ll_plain::Plain;
-use ll_rights::{Abi, Errno};
+use ll_rights::Abi;
 use ll_seq::{Call, Entry, Reply};
 use ll_wire::reply_text_behind;
 use std::alloc::{AllocError, Global};
@@ -36,31 +36,18 @@ pub(crate) struct EntryTold<'a> {
     pub told: &'a Option<Explanation>,
 }
 
-/// Reports whether the call is a connect.
-pub(crate) fn is_connect(call: &Call) -> bool
-    ensures { result ≡ is_connect call.now }
-{
-    matches!(call, Call::Connect)
-}
-
-fn wants_memory(reply: &Reply) -> bool
-    ensures { IsTrue result ↔ (reply.now ≡ Reply.Refused Errno.NoMemory) }
-{
-    matches!(reply, Reply::Refused(Errno::NoMemory))
-}
-
 /// Returns why an entry that isn't legal in the tree's state isn't. Changes the tree.
 pub(crate) fn answer_at(tree: &mut Plain, entry: &Entry) -> Result<Standing, AllocError>
     requires next { tree.old.next < 2 ^ 64 - 1 }
     requires not { MayStand tree.old entry.now → ⊥ }
     ensures { IfOk result (IsStanding tree.old entry.now) }
 {
-    if tree.has_client(entry.client) == is_connect(&entry.call) {
+    if tree.has_client(entry.client) == entry.call.is_connect() {
         return Ok(Standing::NoCaller);
     }
     let fresh = tree.free_number();
     let reply = tree.apply(entry.client, &entry.call, fresh);
-    if wants_memory(&reply) {
+    if reply.wants_memory() {
         return Err(AllocError);
     }
     Ok(Standing::Answers(reply))
@@ -93,7 +80,7 @@ pub(crate) fn standing_line(
     match standing {
         Standing::Stands => Ok(String::new(alloc)),
         Standing::NoCaller => {
-            if is_connect(&entry.call) {
+            if entry.call.is_connect() {
                 String::from_str(alloc, "may not stand: the client is there already\n")
             } else {
                 String::from_str(alloc, "may not stand: the client isn't there\n")

@@ -4,7 +4,7 @@ ghost use Rattle.std.specs.Prelude.{◌≡◌, IfOk, string_bytes};
 ghost use Rattle.ll_why.specs.EntryJson.{entry_json, head_fields, instead_json, opening_json, standing_fields};
 ghost use Rattle.ll_why.specs.EntryJson.{standing_word};
 
-use crate::entry::{EntryTold, Standing, is_connect};
+use crate::entry::{EntryTold, Standing};
 use crate::explanation::Explanation;
 use crate::text::concat;
 use crate::why_json::{call_fields, told_fields};
@@ -35,7 +35,7 @@ fn standing_word(entry: &Entry, standing: &Standing) -> &'static str
     match standing {
         Standing::Stands => "legal",
         Standing::NoCaller => {
-            if is_connect(&entry.call) {
+            if entry.call.is_connect() {
                 "client there already"
             } else {
                 "client not there"

@@ -17,7 +17,7 @@ use crate::explanation::{Explanation, call_line};
 use crate::text::concat;
 use crate::tree::tree_after;
 use crate::{Why, WhyStyle};
-use ll_path::{Target, Word};
+use ll_path::Target;
 use ll_plain::Plain;
 use ll_rights::Abi;
 use ll_seq::{Call, Entry, Reply};
@@ -127,21 +127,10 @@ fn opening_behind<'a>(
     }
 }
 
-// Returns a copy of the path argument.
-fn copied(alloc: Global, target: &Target) -> Result<Target, AllocError>
-    ensures { IfOk result (λ copy. copy ≡ target.now) }
-{
-    let text = String::from_str(alloc, target.as_str())?;
-    match Word::new(text) {
-        Ok(word) => Ok(Target::read(word)),
-        Err(_) => unreachable!(),
-    }
-}
-
 fn truncate_of(alloc: Global, target: &Target) -> Result<Call, AllocError>
     ensures { IfOk result (λ call. call ≡ Call.Truncate target.now 0) }
 {
-    let target = copied(alloc, target)?;
+    let target = target.copy(alloc)?;
     Ok(Call::Truncate(target, 0))
 }
 

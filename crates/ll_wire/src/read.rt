@@ -1,6 +1,7 @@
 //! Reading commands.
 
 ghost use Rattle.std.specs.Prelude.{◌≡◌, ◌≤◌, ◌∷◌, true, map, codes};
+ghost use Rattle.ll_path.specs.Word.{IsWord};
 ghost use Rattle.ll_wire.specs.Grammar.{mode_text, SpellsTarget, SpellsCommand};
 ghost use Rattle.ll_wire.specs.Parts.{Reads, ReadsCall, SpellsOneTarget, SpellsTwoTargets, SpellsTokens};
 ghost use Rattle.ll_wire.specs.Reads.{ReadsBy, holds_text, Finds};
@@ -41,20 +42,24 @@ fn mode_of(text: &str) -> Option<Mode>
     })
 }
 
-// Takes memory, so it is parsed after everything that takes none.
+// Takes memory, so it is parsed after everything that takes none. Errors: NoMemory.
+fn target_by(alloc: Global, text: &str) -> Result<Target, Errno>
+    requires { IsWord text.now }
+    ensures { Reads (SpellsTarget text.now) result }
+{
+    let Ok(word) = Word::from_text(alloc, text) else {
+        return Err(Errno::NoMemory);
+    };
+    Ok(Target::read(word))
+}
+
 fn target_of(alloc: Global, text: &str) -> Result<Target, Errno>
     ensures { Reads (SpellsTarget text.now) result }
 {
     if !Word::fits(text) {
         return Err(Errno::BadLine);
     }
-    let Ok(text) = String::from_str(alloc, text) else {
-        return Err(Errno::NoMemory);
-    };
-    match Word::new(text) {
-        Ok(word) => Ok(Target::read(word)),
-        Err(_) => unreachable!(),
-    }
+    target_by(alloc, text)
 }
 
 fn make(alloc: Global, args: &[&str]) -> Result<Call, Errno>
@@ -66,10 +71,8 @@ fn make(alloc: Global, args: &[&str]) -> Result<Call, Errno>
     let Some(kind) = Kind::parse(kind) else {
         return Err(Errno::BadLine);
     };
-    match target_of(alloc, path) {
-        Ok(target) => Ok(Call::Make(kind, target)),
-        Err(errno) => Err(errno),
-    }
+    let target = target_of(alloc, path)?;
+    Ok(Call::Make(kind, target))
 }
 
 fn open(alloc: Global, args: &[&str]) -> Result<Call, Errno>
@@ -81,10 +84,8 @@ fn open(alloc: Global, args: &[&str]) -> Result<Call, Errno>
     let Some(mode) = mode_of(mode) else {
         return Err(Errno::BadLine);
     };
-    match target_of(alloc, path) {
-        Ok(target) => Ok(Call::Open(mode, target)),
-        Err(errno) => Err(errno),
-    }
+    let target = target_of(alloc, path)?;
+    Ok(Call::Open(mode, target))
 }
 
 fn read(args: &[&str]) -> Result<Call, Errno>
@@ -111,10 +112,8 @@ fn write(alloc: Global, args: &[&str]) -> Result<Call, Errno>
     let Some(offset) = number_of(offset) else {
         return Err(Errno::BadLine);
     };
-    match data_of(alloc, bytes) {
-        Ok(bytes) => Ok(Call::Write(fd, offset, bytes)),
-        Err(errno) => Err(errno),
-    }
+    let bytes = data_of(alloc, bytes)?;
+    Ok(Call::Write(fd, offset, bytes))
 }
 
 fn ftruncate(args: &[&str]) -> Result<Call, Errno>
@@ -150,10 +149,8 @@ fn truncate(alloc: Global, args: &[&str]) -> Result<Call, Errno>
     let Some(size) = number_of(size) else {
         return Err(Errno::BadLine);
     };
-    match target_of(alloc, path) {
-        Ok(target) => Ok(Call::Truncate(target, size)),
-        Err(errno) => Err(errno),
-    }
+    let target = target_of(alloc, path)?;
+    Ok(Call::Truncate(target, size))
 }
 
 // The path argument of a call that has one and nothing else.
@@ -177,7 +174,7 @@ fn two_targets(alloc: Global, args: &[&str]) -> Result<(Target, Target), Errno>
         return Err(Errno::BadLine);
     }
     let first = target_of(alloc, first)?;
-    let second = target_of(alloc, second)?;
+    let second = target_by(alloc, second)?;
     Ok((first, second))
 }
 
@@ -205,10 +202,8 @@ fn allow(alloc: Global, args: &[&str]) -> Result<Call, Errno>
     let Some(rights) = Access::parse(rights) else {
         return Err(Errno::BadLine);
     };
-    match target_of(alloc, path) {
-        Ok(target) => Ok(Call::Allow(ruleset, target, rights)),
-        Err(errno) => Err(errno),
-    }
+    let target = target_of(alloc, path)?;
+    Ok(Call::Allow(ruleset, target, rights))
 }
 
 fn confine(args: &[&str]) -> Result<Call, Errno>

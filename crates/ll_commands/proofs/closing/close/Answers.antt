@@ -7,4 +7,4 @@ pub are_entries-requires : goal.are_entries-requires
 are_entries-requires g c =
     let nodes = g.N.Shape.slots - TREE_CLIENTS in
     let slots : g.N.Shape.slots ≡ nodes + TREE_CLIENTS = omega (arith, c.requires) in
-    (start g.N.Shape.rules nodes, (c.in-Ok.ensures.closed nodes slots).legal)
+    (start g.N.Shape.rules nodes, (c.close_all-history.ensures.closed nodes slots).legal)

@@ -1,4 +1,4 @@
-use Rattle.std.proofs.Common.{ap, sym, ◌≡◌, ◌∙◌, inl, inr}
+use Rattle.std.proofs.Common.{ap, sym, ◌≡◌, ◌∙◌, inl, inr, refl}
 use Rattle.ll_rights.specs.Map.{has}
 use Rattle.ll_rights.specs.declared.errno.Errno.TheVariants.{EMFILE, NoMemory}
 use Rattle.ll_seq.specs.declared.reply.Reply.{Reply}
@@ -21,3 +21,7 @@ unreachable-requires c =
       | inl e ↦ c.in_default.not-Done (ap (λ (p : Reply × State). p.0) (done ∙ e.1))
       | inr e ↦ c.in_default.not-Refused EMFILE (ap (λ (p : Reply × State). p.0) (done ∙ e.1))
     ]
+
+pub returns-in-Refused-clause-refused : goal.returns-in-Refused-clause-refused
+returns-in-Refused-clause-refused c = λ no.
+    (c.args.client, refl, ap (λ (p : Reply × State). p.0) (c.in-Refused.ensures.step no))

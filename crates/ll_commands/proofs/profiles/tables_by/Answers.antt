@@ -6,10 +6,10 @@ use Rattle.ll_commands.specs.Profiles.{AreTables, StopsAt}
 use Rattle.ll_commands.proofs.profiles.tables_by.Goals as goal
 
 pub returns-in-Err-clause-failure : goal.returns-in-Err-clause-failure
-returns-in-Err-clause-failure c = inr (inl c.in-Err.ensures.failure)
+returns-in-Err-clause-failure g c = inr (inl c.in-Err.ensures.failure)
 
 pub returns-in-Ok-names-clause-tables : goal.returns-in-Ok-names-clause-tables
-returns-in-Ok-names-clause-tables c =
+returns-in-Ok-names-clause-tables g c =
     let names = ap (map (λ (p : Bor (List ℕ)). p.now)) c.as_slice.ensures.value ∙ c.in-Ok-names.ensures in
     IfOk-weaker c.tables_of.result _ _ (λ text are. (
       (c.in-Ok.ensures.utf8, c.in-Ok.ensures.right),
@@ -22,7 +22,7 @@ returns-in-Ok-names-clause-tables c =
     )) c.tables_of.ensures.tables
 
 pub returns-in-Ok-names-clause-failure : goal.returns-in-Ok-names-clause-failure
-returns-in-Ok-names-clause-failure c =
+returns-in-Ok-names-clause-failure g c =
     let names = ap (map (λ (p : Bor (List ℕ)). p.now)) c.as_slice.ensures.value ∙ c.in-Ok-names.ensures in
     IfErr-weaker c.tables_of.result _ _ (λ failure stops. inr (inr (
       c.in-Ok.plan,
@@ -31,4 +31,4 @@ returns-in-Ok-names-clause-failure c =
     ))) c.tables_of.ensures.failure
 
 pub returns-clause-failure : goal.returns-clause-failure
-returns-clause-failure c = inr (inl (λ tree. tt))
+returns-clause-failure g c = inr (inl (λ tree. tt))

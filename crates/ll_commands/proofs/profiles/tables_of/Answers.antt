@@ -15,7 +15,7 @@ names = map (λ p. p.now)
 
 pub loop-profile-preserved : goal.loop-profile-preserved
 unfolding none
-loop-profile-preserved c =
+loop-profile-preserved g c =
     let order = rights_in c.args.options.now in
     let policy = c.args.policy.now in
     let profiles = c.args.profiles.now in
@@ -33,7 +33,7 @@ loop-profile-preserved c =
 
 pub returns-in-Err-clause-failure : goal.returns-in-Err-clause-failure
 unfolding none
-returns-in-Err-clause-failure c =
+returns-in-Err-clause-failure g c =
     let order = rights_in c.args.options.now in
     let policy = c.args.policy.now in
     let profiles = c.args.profiles.now in
@@ -51,7 +51,7 @@ returns-in-Err-clause-failure c =
     c.in-Err.failure c.loop-profile.invariant.so_far c.in-Err.ensures.failure)
 
 pub returns-clause-tables : goal.returns-clause-tables
-returns-clause-tables c =
+returns-clause-tables g c =
     subst (λ (l : List (Bor (List ℕ))). AreTables (rights_in c.args.options.now) c.args.policy.now (names l)
     (string_bytes c.loop-profile.text))
     (take_all c.loop-profile.profile-index c.args.profiles.now c.loop-profile-test.false)

@@ -1,10 +1,9 @@
-use Rattle.std.proofs.Common.{ap, refl, subst, sym}
+use Rattle.std.proofs.Common.{List, ap, refl, subst, sym, ◌∙◌}
 use Rattle.ll_seq.specs.History.{Log}
-use Rattle.ll_session.specs.Opening.{Opens}
-use Rattle.ll_session.specs.Run.{MayEnd}
-use Rattle.ll_session.proofs.Endings.{if_err, may_begun, may_refused, refusal, runs}
-use Rattle.ll_embed.specs.Alone.{opening_at, own}
-use Rattle.ll_embed.specs.declared.opening.Shut.{Shut}
+use Rattle.ll_seq.specs.declared.reply.Entry.{Entry}
+use Rattle.ll_session.specs.Run.{MayEnd, RunsAs}
+use Rattle.ll_session.proofs.Endings.{IfKnown, if_err, may_begun, may_refused, refusal_told, runs}
+use Rattle.ll_embed.specs.Alone.{own}
 use Rattle.ll_embed.proofs.text_run.run_over.Goals as goal
 
 pub returns-in_err-run_session-in-Ok-open-clause-may : goal.returns-in_err-run_session-in-Ok-open-clause-may
@@ -22,29 +21,32 @@ returns-in_ok-run_session-in-Ok-open-clause-transcript g c =
     run.history.entries ran.0 run.stop ran.2 c.args.is_strict
     (own c.open.new.self, ran.1, c.in-Ok-open.ensures.ok, (ran.1, ran.3, refl), sym ran.4)
 
-pub returns-in_err-write_reply-in-Err-Refused-clause-may : goal.returns-in_err-write_reply-in-Err-Refused-clause-may
-returns-in_err-write_reply-in-Err-Refused-clause-may g c =
-    let fault = c.in_err-write_reply-in-Err-Refused.field-0.0 in
-    let is = subst (λ (shut : Shut). Opens c.args.setup (opening_at shut (own c.open.new.self)))
-    c.in-Err-Refused.field-0-is c.in-Err-Refused.ensures.err in
-    if_err c.from_residual-in_err-write_reply-in-Err-Refused.result fault (MayEnd c.args.setup)
-    c.from_residual-in_err-write_reply-in-Err-Refused.ensures.1
-    (may_refused c.args.setup fault _ _ _ _ (own c.open.new.self) is
-    c.in_err-write_reply-in-Err-Refused.ensures.err)
+pub returns-then-not-is_told-clause-may : goal.returns-then-not-is_told-clause-may
+returns-then-not-is_told-clause-may g c =
+    (sym c.is_told.ensures ∙ c.if-not-is_told.true, own c.open.new.self, c.in-Err.ensures.err)
 
-pub returns-in_ok-write_reply-in-Err-Refused-clause-transcript :
-    goal.returns-in_ok-write_reply-in-Err-Refused-clause-transcript
-returns-in_ok-write_reply-in-Err-Refused-clause-transcript g c =
+pub returns-in_err-write_reply-in-Err-clause-may : goal.returns-in_err-write_reply-in-Err-clause-may
+returns-in_err-write_reply-in-Err-clause-may g c =
+    let fault = c.in_err-write_reply-in-Err.field-0.0 in
+    if_err c.from_residual-in_err-write_reply-in-Err.result fault (MayEnd c.args.setup)
+    c.from_residual-in_err-write_reply-in-Err.ensures.1
+    (may_refused c.args.setup fault _ _ _ c.in-Err.refusal (own c.open.new.self)
+    (sym c.is_told.ensures ∙ c.if-not-is_told.false, c.in-Err.ensures.err) c.in_err-write_reply-in-Err.ensures.err)
+
+pub returns-in_ok-write_reply-in-Err-clause-transcript : goal.returns-in_ok-write_reply-in-Err-clause-transcript
+returns-in_ok-write_reply-in-Err-clause-transcript g c =
     let end = own c.open.new.self in
-    let is = subst (λ (shut : Shut). Opens c.args.setup (opening_at shut end)) c.in-Err-Refused.field-0-is
-    c.in-Err-Refused.ensures.err in
-    refusal c.args.is_strict c.args.setup (g.E.Ends.devices c.args.ends.now)
-    (g.E.Ends.devices c.write_reply.new.ends) c.in-Err-Refused.reply c.into_history-history.result.entries
-    c.at_opening-stop.result c.at_opening-stop.ensures
-    (end, end, is, refl, sym (ap (λ (h : Log). h.entries) c.into_history-history.ensures))
-    c.in_ok-write_reply-in-Err-Refused.ensures.ok c.in_ok-write_reply-in-Err-Refused.ensures.remaining
-
-pub returns-in-Err-Stopped-clause-may : goal.returns-in-Err-Stopped-clause-may
-returns-in-Err-Stopped-clause-may g c =
-    subst (λ (shut : Shut). Opens c.args.setup (opening_at shut (own c.open.new.self)))
-    c.in-Err-Stopped.field-0-is c.in-Err-Stopped.ensures.err
+    let old = g.E.Ends.devices c.args.ends.now in
+    let new = g.E.Ends.devices c.write_reply.new.ends in
+    subst (λ (es : List Entry). IfKnown old new (λ input text.
+    RunsAs c.args.is_strict c.args.setup input new.remaining text c.refused.result.stop es))
+    (sym (ap (λ (h : Log). h.entries) c.refused.ensures.history))
+    (refusal_told c.args.is_strict c.args.setup old new c.in-Err.refusal c.into_history.result.entries
+    c.refused.result.stop c.refused.ensures.stop (
+      end,
+      end,
+      (sym c.is_told.ensures ∙ c.if-not-is_told.false, c.in-Err.ensures.err),
+      refl,
+      sym (ap (λ (h : Log). h.entries) c.into_history.ensures),
+    )
+    c.in_ok-write_reply-in-Err.ensures.ok c.in_ok-write_reply-in-Err.ensures.remaining)

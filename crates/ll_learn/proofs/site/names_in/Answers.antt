@@ -21,6 +21,6 @@ returns-in-Listed c =
           c.read.result c.in-Listed.names step
           ∙ ap (λ p. names_in c.args.tree.now (inode_of c.args.tree.now p))
           (target_is c.as_str.result.now c.read.result c.args.path.now
-          (subst (λ (w : List ℕ). IsTarget w c.read.result) c.in_ok-word_of.ensures c.read.ensures)
+          (subst (λ (w : List ℕ). IsTarget w c.read.result) c.in_ok-from_text.ensures c.read.ensures)
           c.as_str.ensures.path.0 c.as_str.ensures.path.1);
     }

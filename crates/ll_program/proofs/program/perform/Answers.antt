@@ -1,5 +1,6 @@
 use Rattle.std.proofs.Common.{rules}
-use Rattle.ll_program.proofs.Stopping.{by_devices, moved}
+use Rattle.ll_session.specs.Run.{refusal_in}
+use Rattle.ll_program.proofs.Stopping.{by_devices, moved, opened_there}
 use Rattle.ll_program.proofs.program.perform.Goals as goal
 
 pub returns-clause-transcript : goal.returns-clause-transcript
@@ -14,3 +15,9 @@ returns-clause-failure g c =
     by_devices c.perform_over.result c.args.setup c.args.is_strict _ _ (g.R.Read.remaining c.args.script.now)
     (g.W.Write.contents c.args.out.now) (g.W.Write.contents c.perform_over.new.ends.writer.now) _ (search rules)
     c.perform_over.ensures.failure
+
+pub returns-clause-opening : goal.returns-clause-opening
+returns-clause-opening g c =
+    opened_there c.perform_over.result c.args.setup (λ it. refusal_in it.stop it.refusal)
+    (λ it. it.run.history.entries) (g.W.Write.contents c.args.out.now)
+    (g.W.Write.contents c.perform_over.new.ends.writer.now) _ (search rules) c.perform_over.ensures.opening

@@ -1,8 +1,9 @@
 use Rattle.std.proofs.Common.{List, Option, inl, inr, refl, subst, ℕ}
+use Rattle.ll_session.specs.Run.{refusal_in}
 use Rattle.ll_program.specs.Options.{TreeOrder, order_in}
 use Rattle.ll_program.specs.Policy.{IsSaved, IsSetup}
 use Rattle.ll_program.proofs.Known.{lacking}
-use Rattle.ll_program.proofs.Stopping.{failing}
+use Rattle.ll_program.proofs.Stopping.{failing, has_opened}
 use Rattle.ll_program.proofs.program.run.Goals as goal
 
 pub returns-in-Err-clause-failure : goal.returns-in-Err-clause-failure
@@ -63,4 +64,16 @@ returns-in-Ok-save_where_named-clause-done g c =
             (g.F.Destination.blank c.perform_asked.new.file) old new) c.perform_asked.ensures.same saved),
         c.in-Ok-conclude.ensures.end,
       ),
+    )
+
+pub returns-in-Ok-save_where_named-clause-opening : goal.returns-in-Ok-save_where_named-clause-opening
+returns-in-Ok-save_where_named-clause-opening g c =
+    let p = c.in-Ok-perform_asked in
+    let s = c.in-Ok.ensures.setup in (
+      s.0,
+      s.1,
+      has_opened (order_in c.args.options.now) _ s.0 c.in-Ok.setup (g.W.Write.contents c.args.out.now)
+          (g.W.Write.contents c.perform_asked.new.out) c.refusal_in-refusal.result
+          (refusal_in p.it.stop p.it.refusal) p.it.run.history.entries c.tree.ensures s.2
+          c.refusal_in-refusal.ensures p.ensures.opening,
     )

@@ -1,4 +1,5 @@
-use Rattle.std.proofs.Common.{◌∙◌, ◌+◌, arith, length}
+use Rattle.std.proofs.Common.{◌∙◌, ◌+◌, ◌∷◌, [], ap, arith, length, refl, sym}
+use Rattle.std.proofs.lemmas.List.{length-append}
 use Rattle.std.proofs.lemmas.Iterator.Adapters.{YieldsList-from_vec}
 use Rattle.std.proofs.lemmas.Iterator.Consumers.{YieldsList-turn, YieldsList-end}
 use Rattle.ll_session.proofs.Coming.{makes_all, makes_none, makes_one, next_call, stops_here}
@@ -6,6 +7,7 @@ use Rattle.ll_session.proofs.calls.make_calls.Goals as goal
 
 pub loop-call-init : goal.loop-call-init
 loop-call-init g c = record {
+  made = refl;
   more = omega arith;
   goes = makes_none g.N.Shape.limit c.args.place c.args.calls.items c.args.party.now;
 }
@@ -20,6 +22,7 @@ loop-call-preserved g c =
     let turn = YieldsList-turn all c.loop-call.yielded c.loop-call.call-iterator c.loop-call.yielded_by c.next.result
     c.next.new.self c.in-Some.call c.in-Some.is c.next.ensures.steps in
     record {
+      made = ap (λ n. n + 1) c.loop-call.invariant.made ∙ sym (length-append c.loop-call.yielded (c.in-Some.call ∷ []));
       more = omega (arith, c.ask.ensures.count, c.loop-call.invariant.more);
       goes = makes_one g.N.Shape.limit c.args.place c.args.calls.items c.args.party.now c.loop-call.party c.ask.new.self
           c.loop-call.yielded c.in-Some.call c.ask.result c.loop-call.invariant.goes c.ask.ensures.asks
@@ -34,7 +37,8 @@ returns-in-Err-clause-err g c =
     c.next.new.self c.in-Some.call c.in-Some.is c.next.ensures.steps in
     stops_here g.N.Shape.limit c.args.place c.args.calls.items c.args.party.now c.loop-call.party c.ask.new.self
     c.loop-call.yielded c.in-Some.call c.ask.result c.loop-call.invariant.goes c.ask.ensures.asks
-    (next_call c.args.calls.items c.loop-call.yielded c.in-Some.call turn) c.in-Err.reply c.in-Err.ensures.err
+    (next_call c.args.calls.items c.loop-call.yielded c.in-Some.call turn) (c.loop-call.made + 1) c.in-Err.reply
+    (ap (λ n. n + 1) c.loop-call.invariant.made) c.in-Err.ensures.err
 
 pub returns-in-Err-clause-count : goal.returns-in-Err-clause-count
 returns-in-Err-clause-count g c = omega (arith, c.ask.ensures.count, c.loop-call.invariant.more)

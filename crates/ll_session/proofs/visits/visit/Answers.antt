@@ -1,7 +1,6 @@
 use Rattle.std.proofs.Common.{◌∙◌, List, None, map, refl, subst, sym}
 use Rattle.std.specs.Prelude.{IfErr, OnOk}
 use Rattle.ll_client.specs.Entries.{Knows}
-use Rattle.ll_seq.specs.declared.reply.Reply.TheVariants.{Refused}
 use Rattle.ll_session.specs.Visit.{StartsBy, Visits}
 use Rattle.ll_session.specs.declared.stream.Outcome.{Outcome}
 use Rattle.ll_session.proofs.VisitEndings.{cut_short, no_place, ready, started, stopped, turned_away, visited}
@@ -14,8 +13,9 @@ returns-in-Err-clause-ok g c =
     let it = c.turn_away in
     let left = map (λ it. it.rider) it.result.0.items in
     turned_away limit profile (g.E.Ends.devices c.args.ends.now) (g.E.Ends.devices it.new.ends) it.result.2
-    it.result.1.tally (Refused c.in-Err.errno) left it.ensures.refusal it.ensures.tally
-    (no_place limit profile c.in-Err.errno left c.in-Err.ensures.err (it.ensures.clients ∙ c.in-Err.ensures.none))
+    it.result.1.tally c.at_connect-refusal.result left it.ensures.refusal it.ensures.tally
+    (no_place limit profile c.at_connect-refusal.result c.in-Err.errno left c.at_connect-refusal.ensures
+    c.in-Err.ensures.err (it.ensures.clients ∙ c.in-Err.ensures.none))
     it.ensures.remaining it.result.1.ended it.ensures.ok
 
 pub returns-in-Err-clause-err : goal.returns-in-Err-clause-err
@@ -25,8 +25,9 @@ returns-in-Err-clause-err g c =
     let it = c.turn_away in
     let left = map (λ it. it.rider) it.result.0.items in
     cut_short limit profile (g.E.Ends.devices c.args.ends.now) (g.E.Ends.devices it.new.ends) it.result.2
-    it.result.1.tally (Refused c.in-Err.errno) left it.ensures.refusal it.ensures.tally
-    (no_place limit profile c.in-Err.errno left c.in-Err.ensures.err (it.ensures.clients ∙ c.in-Err.ensures.none))
+    it.result.1.tally c.at_connect-refusal.result left it.ensures.refusal it.ensures.tally
+    (no_place limit profile c.at_connect-refusal.result c.in-Err.errno left c.at_connect-refusal.ensures
+    c.in-Err.ensures.err (it.ensures.clients ∙ c.in-Err.ensures.none))
     it.ensures.remaining it.result.1.ended it.ensures.err
 
 pub returns-in-Ok-make_calls-clause-ok : goal.returns-in-Ok-make_calls-clause-ok
@@ -71,9 +72,10 @@ returns-in-Err-make_calls-clause-ok g c =
     let it = c.turn_away-in-Err-make_calls in
     let left = map (λ it. it.rider) it.result.0.items in
     turned_away limit profile (g.E.Ends.devices c.args.ends.now) (g.E.Ends.devices it.new.ends) it.result.2
-    it.result.1.tally c.in-Err-make_calls.reply left it.ensures.refusal it.ensures.tally
-    (stopped limit profile come.0 c.come.new.party c.in-Err-make_calls.reply c.make_calls.new.party left come.1 come.2
-    it.ensures.clients c.in-Err-make_calls.ensures.err) it.ensures.remaining it.result.1.ended it.ensures.ok
+    it.result.1.tally c.in-Err-make_calls.refusal left it.ensures.refusal it.ensures.tally
+    (stopped limit profile come.0 c.come.new.party c.in-Err-make_calls.refusal c.make_calls.new.party left come.1 come.2
+    it.ensures.clients c.in-Err-make_calls.ensures.opener c.in-Err-make_calls.ensures.err)
+    it.ensures.remaining it.result.1.ended it.ensures.ok
 
 pub returns-in-Err-make_calls-clause-err : goal.returns-in-Err-make_calls-clause-err
 returns-in-Err-make_calls-clause-err g c =
@@ -83,6 +85,7 @@ returns-in-Err-make_calls-clause-err g c =
     let it = c.turn_away-in-Err-make_calls in
     let left = map (λ it. it.rider) it.result.0.items in
     cut_short limit profile (g.E.Ends.devices c.args.ends.now) (g.E.Ends.devices it.new.ends) it.result.2
-    it.result.1.tally c.in-Err-make_calls.reply left it.ensures.refusal it.ensures.tally
-    (stopped limit profile come.0 c.come.new.party c.in-Err-make_calls.reply c.make_calls.new.party left come.1 come.2
-    it.ensures.clients c.in-Err-make_calls.ensures.err) it.ensures.remaining it.result.1.ended it.ensures.err
+    it.result.1.tally c.in-Err-make_calls.refusal left it.ensures.refusal it.ensures.tally
+    (stopped limit profile come.0 c.come.new.party c.in-Err-make_calls.refusal c.make_calls.new.party left come.1 come.2
+    it.ensures.clients c.in-Err-make_calls.ensures.opener c.in-Err-make_calls.ensures.err)
+    it.ensures.remaining it.result.1.ended it.ensures.err

@@ -1,13 +1,16 @@
-use Rattle.std.proofs.Common.{arith}
+use Rattle.std.proofs.Common.{◌≡◌, Err, arith, rules}
 use Rattle.std.proofs.lemmas.Grind.{common_steps}
 use Rattle.ll_wire.proofs.FirstTokens.{open_fails}
 use Rattle.ll_wire.proofs.Targets.{text_is, own_text}
 use Rattle.ll_wire.proofs.read.open.Goals as goal
 
-pub returns-in-Ok : goal.returns-in-Ok
-returns-in-Ok c =
-    let text = text_is _ _ c.in-Ok.ensures in
-    (own_text _ _ c.in-Ok.ensures, grind (arith, common_steps))
+pub returns : goal.returns
+returns c =
+    let text = text_is _ _ c.in_ok-target.ensures in
+    (own_text _ _ c.in_ok-target.ensures, grind (arith, common_steps))
 
-pub returns-in-Err : goal.returns-in-Err
-returns-in-Err c = open_fails _ c.in-Some.mode _ c.in-Err.errno (grind (arith, common_steps)) c.in-Err.ensures
+pub returns-in_err-target : goal.returns-in_err-target
+returns-in_err-target c =
+    let same : c.from_residual.result ≡ Err c.in_err-target.field-0.0 = search rules in
+    rw same (open_fails _ c.in-Some.mode _ c.in_err-target.field-0.0 (grind (arith, common_steps))
+    c.in_err-target.ensures)

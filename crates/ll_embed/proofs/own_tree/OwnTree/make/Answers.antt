@@ -1,9 +1,9 @@
-use Rattle.std.proofs.Common.{◌≡◌, ◌∙◌, arith, drop, length, subst, sym, refl, List, []}
+use Rattle.std.proofs.Common.{◌≡◌, ◌∙◌, ◌+◌, ◌∷◌, ap, arith, drop, length, subst, sym, refl, List, []}
 use Rattle.std.proofs.lemmas.Iterator.Adapters.{YieldsList-from_vec}
 use Rattle.std.proofs.lemmas.Iterator.Consumers.{YieldsList-turn, YieldsList-end}
-use Rattle.std.proofs.lemmas.List.{drop_all}
+use Rattle.std.proofs.lemmas.List.{drop_all, length-append}
 use Rattle.ll_seq.specs.declared.call.Call.{Call}
-use Rattle.ll_session.specs.Opening.{Makes}
+use Rattle.ll_session.specs.Opening.{Makes, Stops}
 use Rattle.ll_embed.specs.Alone.{own}
 use Rattle.ll_embed.proofs.Owned.{makes_on, stops_here, stops_on}
 use Rattle.ll_embed.proofs.own_tree.OwnTree.make.Goals as goal
@@ -13,7 +13,10 @@ loop-call-init c = record {
   alone = c.requires.alone;
   clients = omega arith;
   makes = λ t rest. rest;
-  stops = λ reply t rest. rest;
+  made = refl;
+  stops = λ number all reply t e rest.
+      let same : number ≡ all = omega (arith, e) in
+      subst (λ n. Stops c.args.client (own c.args.self.now) c.args.calls.items n reply t) same rest;
 }
 
 pub make_one-requires-clause-last : goal.make_one-requires-clause-last
@@ -34,6 +37,7 @@ loop-call-preserved c =
       clients = omega (arith, c.make_one.ensures.clients, c.loop-call.invariant.clients);
       makes = makes_on c.args.client first before after c.args.calls.items c.loop-call.yielded c.in-Some.call made.0
           turn made.1 made.2 c.loop-call.invariant.makes;
+      made = ap (λ n. n + 1) c.loop-call.invariant.made ∙ sym (length-append c.loop-call.yielded (c.in-Some.call ∷ []));
       stops = stops_on c.args.client first before after c.args.calls.items c.loop-call.yielded c.in-Some.call made.0
           turn made.1 made.2 c.loop-call.invariant.stops;
     }
@@ -46,7 +50,8 @@ returns-in-Err-clause-err c =
     c.next.new.self c.in-Some.call c.in-Some.is c.next.ensures.steps in
     let made = c.in-Err.ensures.err in
     stops_here c.args.client (own c.args.self.now) (own c.loop-call.self) (own c.make_one.new.self) c.args.calls.items
-    c.loop-call.yielded c.in-Some.call c.in-Err.reply turn made.0 made.1 c.loop-call.invariant.stops
+    c.loop-call.yielded c.in-Some.call c.in-Err.reply turn made.0 (c.loop-call.made + 1)
+    (ap (λ n. n + 1) c.loop-call.invariant.made) made.1 c.loop-call.invariant.stops
 
 pub returns-in-Err-clause-alone : goal.returns-in-Err-clause-alone
 returns-in-Err-clause-alone c = c.make_one.ensures.before ∙ c.loop-call.invariant.alone

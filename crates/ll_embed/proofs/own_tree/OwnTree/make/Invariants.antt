@@ -1,4 +1,4 @@
-use Rattle.std.proofs.Common.{◌≡◌, ◌≤◌, drop, length}
+use Rattle.std.proofs.Common.{◌≡◌, ◌≤◌, ◌+◌, ℕ, drop, length}
 use Rattle.ll_seq.specs.declared.reply.Reply.{Reply}
 use Rattle.ll_session.specs.Opening.{Makes, Stops}
 use Rattle.ll_session.specs.PartySession.{Session}
@@ -12,7 +12,8 @@ invariant-loop-call l = record {
   clients : l.fn.self.clients ≤ l.self.clients;
   makes : (t : Session) → Makes l.client (own l.self) (drop (length l.yielded) l.fn.calls.items) t
       → Makes l.client (own l.fn.self) l.fn.calls.items t;
-  stops : (reply : Reply) (t : Session)
-      → Stops l.client (own l.self) (drop (length l.yielded) l.fn.calls.items) reply t
-      → Stops l.client (own l.fn.self) l.fn.calls.items reply t;
+  made : l.made ≡ length l.yielded;
+  stops : (number all : ℕ) (reply : Reply) (t : Session) → all ≡ length l.yielded + number
+      → Stops l.client (own l.self) (drop (length l.yielded) l.fn.calls.items) number reply t
+      → Stops l.client (own l.fn.self) l.fn.calls.items all reply t;
 }

@@ -1,30 +1,22 @@
-use Rattle.std.proofs.Common.{◌≡◌, subst, sym}
-use Rattle.ll_seq.specs.declared.reply.Reply.{Reply}
-use Rattle.ll_session.specs.Between.{Leads}
-use Rattle.ll_session.specs.Opening.{Opens, fresh, refused}
-use Rattle.ll_session.proofs.Coming.{loader_stops, no_loader, no_session, opens}
+use Rattle.std.proofs.Common.{◌≡◌, Err, rules}
+use Rattle.ll_session.proofs.Coming.{no_loader, no_session, opens}
 use Rattle.ll_session.proofs.shared.Shared.open.Goals as goal
 
-pub returns-in-Err-AtConnect-clause-err : goal.returns-in-Err-AtConnect-clause-err
-returns-in-Err-AtConnect-clause-err g c room =
-    no_loader c.args.setup g.N.Shape.rules room g.N.Shape.limit c.args.self.now.party c.load.new.self.party
-    c.in-Err-AtConnect.field-0 (c.in-Err-AtConnect.ensures.err room) c.in-Err-AtConnect.errno
-    c.in-Err-AtConnect.field-0-is
+pub returns-in_err-load-clause-err : goal.returns-in_err-load-clause-err
+returns-in_err-load-clause-err g c =
+    let same : c.from_residual.result ≡ Err c.in_err-load.field-0.0 = search rules in
+    rw same (λ room. no_loader c.args.setup g.N.Shape.rules room g.N.Shape.limit c.args.self.now.party
+    c.load.new.self.party c.in_err-load.field-0.0 c.in_err-load.ensures.opener (c.in_err-load.ensures.err room))
 
-pub returns-in-Err-AtCall-clause-err : goal.returns-in-Err-AtCall-clause-err
-returns-in-Err-AtCall-clause-err g c room =
-    loader_stops c.args.setup g.N.Shape.rules room g.N.Shape.limit c.args.self.now.party c.load.new.self.party
-    c.in-Err-AtCall.field-0 (c.in-Err-AtCall.ensures.err room) c.in-Err-AtCall.reply c.in-Err-AtCall.field-0-is
-
-pub returns-in-Ok-bring-clause-ok : goal.returns-in-Ok-bring-clause-ok
-returns-in-Ok-bring-clause-ok g c room =
+pub returns-clause-ok : goal.returns-clause-ok
+returns-clause-ok g c room =
     opens c.args.setup g.N.Shape.rules room g.N.Shape.limit c.args.self.now.party c.load.new.self.party
-    c.bring.new.self.party c.len-before.result (c.in-Ok.ensures.ok room) (c.in-Ok-bring.ensures.ok room)
+    c.bring.new.self.party c.len-before.result (c.in_ok-load.ensures.ok room) (c.in_ok-bring.ensures.ok room)
     c.len-before.ensures
 
-pub returns-in-Err-clause-err : goal.returns-in-Err-clause-err
-returns-in-Err-clause-err g c room =
-    subst (λ (r : Reply). Leads g.N.Shape.rules room g.N.Shape.limit c.args.self.now.party c.bring.new.self.party
-    (λ s t. s ≡ fresh c.args.setup → Opens c.args.setup (refused r t))) (sym c.reply.ensures)
-    (no_session c.args.setup g.N.Shape.rules room g.N.Shape.limit c.args.self.now.party c.load.new.self.party
-    c.bring.new.self.party c.in-Err.refusal (c.in-Ok.ensures.ok room) (c.in-Err.ensures.err room))
+pub returns-in_err-bring-clause-err : goal.returns-in_err-bring-clause-err
+returns-in_err-bring-clause-err g c =
+    let same : c.from_residual-in_err-bring.result ≡ Err c.in_err-bring.field-0.0 = search rules in
+    rw same (λ room. no_session c.args.setup g.N.Shape.rules room g.N.Shape.limit c.args.self.now.party
+    c.load.new.self.party c.bring.new.self.party c.in_err-bring.field-0.0 c.in_err-bring.ensures.opener
+    (c.in_ok-load.ensures.ok room) (c.in_err-bring.ensures.err room))
