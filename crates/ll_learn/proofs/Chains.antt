@@ -17,7 +17,7 @@ use Rattle.ll_laws.proofs.Chains.{same_Some}
 use Rattle.ll_laws.proofs.Trees.{IsTree, only_path}
 use Rattle.ll_learn.specs.declared.draft.Scope.{Scope}
 use Rattle.ll_learn.specs.declared.site.Sites.{Sites}
-use Rattle.ll_learn.specs.declared.still.SiteChains.{SiteChains}
+use Rattle.ll_learn.specs.declared.site_chains.SiteChains.{SiteChains}
 use Rattle.ll_learn.specs.Draft.{may_have}
 use Rattle.ll_learn.specs.Lesson.{IsOfSites}
 use Rattle.ll_learn.specs.Mended.{ArePathsTo, AreSiteChains, HasEachOf, IsPathTo, KnowEach, chain_at, chain_in}

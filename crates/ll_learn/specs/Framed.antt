@@ -14,7 +14,7 @@ use Rattle.ll_learn.specs.declared.learned.Frame.{Frame}
 use Rattle.ll_learn.specs.declared.needs.Needs.{Needs}
 use Rattle.ll_learn.specs.declared.profile.LearnedProfile.{LearnedProfile}
 use Rattle.ll_learn.specs.declared.site.Sites.{Sites}
-use Rattle.ll_learn.specs.declared.still.SiteChains.{SiteChains}
+use Rattle.ll_learn.specs.declared.site_chains.SiteChains.{SiteChains}
 use Rattle.ll_learn.specs.Draft.{IsInScope, IsScope, may_have}
 use Rattle.ll_learn.specs.Learned.{NamesNone, may_hold}
 use Rattle.ll_learn.specs.Least.{AreNeeded}

@@ -14,7 +14,7 @@ use Rattle.ll_learn.specs.declared.needs.Needs.{Needs}
 use Rattle.ll_learn.specs.declared.needs.Origin.{Origin}
 use Rattle.ll_learn.specs.declared.site.Site.{Site}
 use Rattle.ll_learn.specs.declared.site.Sites.{Sites}
-use Rattle.ll_learn.specs.declared.still.SiteChains.{SiteChains}
+use Rattle.ll_learn.specs.declared.site_chains.SiteChains.{SiteChains}
 use Rattle.ll_learn.specs.declared.profile.LearnedProfile.{LearnedProfile}
 use Rattle.ll_learn.specs.declared.profile.LearnedRule.{LearnedRule}
 use Rattle.ll_learn.specs.Draft.{IsCharged, IsNeed, has, may_have, right_at, without}

@@ -13,7 +13,7 @@ use Rattle.ll_learn.specs.declared.draft.Scope.{Scope}
 use Rattle.ll_learn.specs.declared.needs.Moved.{Moved}
 use Rattle.ll_learn.specs.declared.needs.Needs.{Needs}
 use Rattle.ll_learn.specs.declared.site.Site.{Site}
-use Rattle.ll_learn.specs.declared.still.SiteChains.{SiteChains}
+use Rattle.ll_learn.specs.declared.site_chains.SiteChains.{SiteChains}
 use Rattle.ll_learn.specs.Bound.{BeginAt, Part, PassesEach, ReachesNoMore}
 use Rattle.ll_learn.specs.Charges.{AreNeedsOf, IsScopeAt, WereInOne}
 use Rattle.ll_learn.specs.Draft.{IsDerived, IsInScope, IsOf, has, may_have}

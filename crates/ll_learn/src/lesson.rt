@@ -14,8 +14,8 @@ use crate::needs::Needs;
 use crate::profile::LearnedProfile;
 use crate::rules::rules_of;
 use crate::site::Sites;
+use crate::site_chains::SiteChains;
 use crate::solution::{DraftFault, least_draft};
-use crate::still::SiteChains;
 use std::alloc::Global;
 
 // Reports whether the draft is called least. Nobody else moves anything; and each of its rights is asked on a path

@@ -2,7 +2,6 @@
 #![tactic(auto)]
 
 mod alike;
-mod column;
 mod demand;
 mod draft;
 mod fault;
@@ -14,12 +13,13 @@ mod made;
 mod needs;
 mod opening;
 mod profile;
+mod right_column;
 mod rules;
 mod saved_lesson;
 mod site;
+mod site_chains;
 mod solution;
 mod span;
-mod still;
 mod undenied;
 mod watch;
 

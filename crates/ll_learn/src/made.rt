@@ -3,11 +3,11 @@
 ghost use Rattle.std.specs.Prelude.{◌≤◌};
 ghost use Rattle.ll_rights.specs.declared.limits.TheConstants.{TREE_NODES};
 
-use crate::column::is_granted_without;
 use crate::draft::Draft;
 use crate::needs::{Asked, Needs};
 use crate::opening::{Opening, cut_of};
 use crate::profile::{LearnedProfile, LearnedRule};
+use crate::right_column::is_granted_without;
 use crate::site::Sites;
 use crate::undenied::{Basis, draft_of};
 use ll_path::Path;

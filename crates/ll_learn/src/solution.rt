@@ -9,9 +9,9 @@ ghost use Rattle.ll_learn.specs.Draft.{is_granted, is_met, is_placed, is_restric
 ghost use Rattle.ll_learn.specs.Least.{AreNeeded};
 ghost use Rattle.ll_learn.specs.Needs.{AreRooted, Meets};
 
-use crate::column::{is_gainless_without, is_granted_without, least_column};
 use crate::draft::{Draft, Need, Scope};
 use crate::needs::{Asked, Moved, Needs};
+use crate::right_column::{is_gainless_without, is_granted_without, least_column};
 use ll_rights::Right;
 use std::alloc::{AllocError, Global};
 
