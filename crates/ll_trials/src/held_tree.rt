@@ -3,7 +3,7 @@
 ghost use Rattle.std.specs.Prelude.{◌≡◌, ◌+◌, true};
 ghost use Rattle.ll_rights.specs.declared.limits.TheConstants.{TREE_CLIENTS};
 
-use crate::calls::target;
+use crate::calls::{makes, target};
 use crate::clients::{bring, close};
 use crate::watched::{TrialEnd, end_of_trial, waits_for};
 use ll_audit::audit;
@@ -58,21 +58,6 @@ impl<N: Shape> Gate<N> for Holding {
                 self.hold.is_late.store(1, Ordering::SeqCst);
             }
         }
-    }
-}
-
-/// Creates a node of this kind.
-fn makes<N: Shape>(
-    rt: &impl Wait,
-    alloc: Global,
-    tree: &Tree<N, Holding>,
-    me: &mut Client<N>,
-    kind: Kind,
-    path: &str,
-) -> bool {
-    match target(alloc, path) {
-        Some(path) => tree.make(rt, me, kind, path).is_ok(),
-        None => false,
     }
 }
 

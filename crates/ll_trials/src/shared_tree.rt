@@ -4,7 +4,7 @@
 ghost use Rattle.std.specs.Prelude.{◌≡◌, ◌+◌, true};
 ghost use Rattle.ll_rights.specs.declared.limits.TheConstants.{TREE_CLIENTS};
 
-use crate::calls::target;
+use crate::calls::{inode_at, makes, target};
 use crate::clients::{add, bring, close};
 use crate::watched::{TrialEnd, end_of_trial};
 use ll_audit::audit;
@@ -46,37 +46,6 @@ enum Trial {
 
 fn is_legal(alloc: Global, history: &History) -> bool {
     audit(alloc, RULES, NODES, history).is_ok()
-}
-
-fn makes<N: Shape>(
-    rt: &impl Wait,
-    alloc: Global,
-    tree: &Tree<N, NoGate>,
-    me: &mut Client<N>,
-    kind: Kind,
-    path: &str,
-) -> bool {
-    match target(alloc, path) {
-        Some(path) => tree.make(rt, me, kind, path).is_ok(),
-        None => false,
-    }
-}
-
-/// The inode of the path, 0 if there is none.
-fn inode_at<N: Shape>(
-    rt: &impl Wait,
-    alloc: Global,
-    tree: &Tree<N, NoGate>,
-    me: &mut Client<N>,
-    path: &str,
-) -> u64 {
-    let Some(path) = target(alloc, path) else {
-        return 0;
-    };
-    match tree.stat(rt, me, path) {
-        Ok(status) => status.inode,
-        Err(_) => 0,
-    }
 }
 
 /// Whether the tree doesn't close with this list. Returns both then, and else waits forever.

@@ -4,7 +4,7 @@
 ghost use Rattle.std.specs.Prelude.{◌≡◌, ◌+◌, None, true};
 ghost use Rattle.ll_rights.specs.declared.limits.TheConstants.{TREE_CLIENTS};
 
-use crate::calls::target;
+use crate::calls::{inode_at, makes};
 use crate::clients::{bring, close};
 use crate::fuse::Source;
 use crate::watched::{TrialEnd, end_of_trial};
@@ -155,36 +155,6 @@ fn stream(
     })
 }
 
-fn makes<N: Shape>(
-    rt: &impl Wait,
-    alloc: Global,
-    tree: &Tree<N, Holding>,
-    me: &mut Client<N>,
-    path: &str,
-) -> bool {
-    match target(alloc, path) {
-        Some(path) => tree.make(rt, me, Kind::Dir, path).is_ok(),
-        None => false,
-    }
-}
-
-/// The inode of the path, 0 if there is none.
-fn inode_at<N: Shape>(
-    rt: &impl Wait,
-    alloc: Global,
-    tree: &Tree<N, Holding>,
-    me: &mut Client<N>,
-    path: &str,
-) -> u64 {
-    let Some(path) = target(alloc, path) else {
-        return 0;
-    };
-    match tree.stat(rt, me, path) {
-        Ok(status) => status.inode,
-        Err(_) => 0,
-    }
-}
-
 /// Whether the client creates `/a`, in which walks are held from now on, and `/b`.
 fn furnishes<N: Shape>(
     rt: &impl Wait,
@@ -193,7 +163,9 @@ fn furnishes<N: Shape>(
     me: &mut Client<N>,
     flags: &Flags,
 ) -> bool {
-    if !makes(rt, alloc, tree, me, "/a") || !makes(rt, alloc, tree, me, "/b") {
+    if !makes(rt, alloc, tree, me, Kind::Dir, "/a")
+        || !makes(rt, alloc, tree, me, Kind::Dir, "/b")
+    {
         return false;
     }
     let inode = inode_at(rt, alloc, tree, me, "/a");
