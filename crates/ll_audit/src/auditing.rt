@@ -166,14 +166,6 @@ pub fn run_audit<R: Read, W: Write, P: Progress>(
         × IfSome (R.remaining reader.old) (λ bytes. Judges (pieces bytes) verdict)
         × AppendsFront (W.contents writer.old) (W.contents writer.new) (verdict_line verdict) }
 {
-    let mut ends = Pair {
-        reader,
-        writer,
-        reads: 0,
-        owed: 0,
-        is_answering: false,
-        is_input_broken: false,
-        is_output_broken: false,
-    };
+    let mut ends = Pair::new(reader, writer, false);
     run_audit_over(alloc, &mut ends, progress)
 }

@@ -125,15 +125,7 @@ pub fn save<W: Write>(
         (AppendsFront (W.contents writer.old) (W.contents writer.new) (saved_text header entries.now)) }
 {
     let mut nothing = empty();
-    let mut ends = Pair {
-        reader: &mut nothing,
-        writer,
-        reads: 0,
-        owed: 0,
-        is_answering: false,
-        is_input_broken: false,
-        is_output_broken: false,
-    };
+    let mut ends = Pair::new(&mut nothing, writer, false);
     save_over(alloc, header, entries, &mut ends)
 }
 

@@ -35,15 +35,7 @@ fn write_text<W: Write>(writer: &mut W, text: &str) -> Result<(), Broken>
     ensures err { OnErr result (AppendsFront (W.contents writer.old) (W.contents writer.new) text.now) }
 {
     let mut nothing = empty();
-    let mut ends = Pair {
-        reader: &mut nothing,
-        writer,
-        reads: 0,
-        owed: 0,
-        is_answering: false,
-        is_input_broken: false,
-        is_output_broken: false,
-    };
+    let mut ends = Pair::new(&mut nothing, writer, false);
     write_out(&mut ends, text.as_bytes())
 }
 

@@ -1,43 +1,19 @@
 //! The lines of replies.
 
-ghost use Rattle.std.specs.Prelude.{◌≡◌, IfErr, IfOk, OnOk, string_bytes};
+ghost use Rattle.std.specs.Prelude.{◌≡◌, IfErr, OnOk};
 ghost use Rattle.std.specs.Io.KnownBytes.{Appends};
 ghost use Rattle.ll_wire.specs.Devices.{IsWhole};
 ghost use Rattle.ll_wire.specs.Reached.{Blames};
-ghost use Rattle.ll_seq.specs.declared.reply.Reply.{Reply};
-ghost use Rattle.ll_wire.specs.Grammar.{IsReply, reply_line};
+ghost use Rattle.ll_wire.specs.Grammar.{reply_line};
 ghost use Rattle.ll_session.specs.Keeping.{AreKept};
 ghost use Rattle.ll_session.specs.Progress.{IsOfRefusal};
 
 use crate::Party;
 use crate::keeper::Kept;
 use ll_client::Shape;
-use ll_rights::Errno;
 use ll_seq::Reply;
-use ll_wire::{Ends, SessionFault, is_entered, line_text, reply_text, write_line};
+use ll_wire::{Ends, SessionFault, reply_line, write_line};
 use std::alloc::{AllocError, Global};
-
-// Returns the line of a refusal.
-fn refusal_line(alloc: Global, errno: Errno) -> Result<String, AllocError>
-    ensures { IfOk result (λ line. string_bytes line ≡ reply_line (Reply.Refused errno)) }
-{
-    let number = errno.number().to_string(alloc)?;
-    line_text(alloc, "refused", &[number.as_str(), errno.text()])
-}
-
-/// Returns the line of a reply. Errors: memory ran out.
-pub fn reply_line(alloc: Global, reply: &Reply) -> Result<String, AllocError>
-    ensures { IfOk result (λ line. string_bytes line ≡ reply_line reply.now) }
-{
-    match reply {
-        Reply::Refused(errno) => refusal_line(alloc, *errno),
-        reply => {
-            reply.by_type();
-            is_entered(reply);
-            reply_text(alloc, reply)
-        }
-    }
-}
 
 /// Writes the line of a reply. Errors: the output failed, or memory ran out.
 pub fn write_reply<E: Ends>(alloc: Global, reply: &Reply, ends: &mut E) -> Result<(), SessionFault>

@@ -249,15 +249,7 @@ pub fn run_script<H: Wait, R: Read, W: Write>(
     ensures long { result ≡ Err (RunFault.Session SessionFault.TooLong)
         → (input : List ℕ) → R.remaining reader.old ≡ Some input → most_reads ≤ length input }
 {
-    let mut ends = Pair {
-        reader,
-        writer,
-        reads: 0,
-        owed: 0,
-        is_answering: true,
-        is_input_broken: false,
-        is_output_broken: false,
-    };
+    let mut ends = Pair::new(reader, writer, true);
     let manner = Manner {
         is_strict: false,
         keeper: &NoKeeper,

@@ -12,11 +12,10 @@ ghost use Rattle.ll_session.specs.Talk.{Goes};
 
 use crate::answering::OpenSession;
 use crate::keeper::Keeps;
-use crate::output::reply_line;
 use crate::score::Score;
 use crate::{Gate, Party};
 use ll_client::Shape;
-use ll_wire::{Answers, Ends, Line, SessionFault, answer_lines};
+use ll_wire::{Answers, Ends, Line, SessionFault, answer_lines, reply_line};
 use std::alloc::AllocError;
 use std::sync::Wait;
 

@@ -157,15 +157,7 @@ fn serve_ends<N: Shape, G: Gate<N>, K: Keeps, H: Wait, R: Read, W: Write>(
         let ended = Err(SessionFault::NoMemory);
         return (Vec::new(alloc), Outcome { tally, ended }, None);
     };
-    let mut ends = Pair {
-        reader: &mut stream.reader,
-        writer: &mut stream.writer,
-        reads: 0,
-        owed: 0,
-        is_answering: true,
-        is_input_broken: false,
-        is_output_broken: false,
-    };
+    let mut ends = Pair::new(&mut stream.reader, &mut stream.writer, true);
     visit(rt, alloc, host, profile, &mut ends)
 }
 

@@ -6,9 +6,8 @@ ghost use Rattle.ll_why.specs.WhyJson.{words_json};
 
 use crate::explanation::call_line;
 use crate::quoted::json_string;
-use ll_rights::Errno;
 use ll_seq::{Call, Reply};
-use ll_wire::{is_entered, line_text, reply_text};
+use ll_wire::reply_line;
 use std::alloc::{AllocError, Global};
 
 // Removes the line feed at the end of a line.
@@ -17,28 +16,6 @@ fn unended(mut line: String) -> String
 {
     line.pop();
     line
-}
-
-// Returns the line of a refusal.
-fn refusal_line(alloc: Global, errno: Errno) -> Result<String, AllocError>
-    ensures { IfOk result (λ line. string_bytes line ≡ reply_line (Reply.Refused errno)) }
-{
-    let number = errno.number().to_string(alloc)?;
-    line_text(alloc, "refused", &[number.as_str(), errno.text()])
-}
-
-// Returns the line of a reply.
-fn reply_line(alloc: Global, reply: &Reply) -> Result<String, AllocError>
-    ensures { IfOk result (λ line. string_bytes line ≡ reply_line reply.now) }
-{
-    match reply {
-        Reply::Refused(errno) => refusal_line(alloc, *errno),
-        reply => {
-            reply.by_type();
-            is_entered(reply);
-            reply_text(alloc, reply)
-        }
-    }
 }
 
 /// Returns the call's words. Errors: memory ran out.

@@ -55,4 +55,4 @@ pub use steady::{read_steadily, write_steadily};
 pub use terminal::{escaped, shown};
 pub use token::number_of;
 pub use whole::write_whole;
-pub use write::{command_text, line_text, reply_text, reply_text_behind};
+pub use write::{command_text, line_text, reply_line, reply_text, reply_text_behind};

@@ -1,5 +1,7 @@
 //! A reader and a writer as two devices.
 
+ghost use Rattle.std.specs.Prelude.{◌≡◌, false};
+
 use crate::ends::{Broken, Ends};
 use crate::feeds::count_feeds;
 use crate::{read_steadily, write_steadily};
@@ -16,6 +18,31 @@ pub struct Pair<'a, R, W> {
     pub is_answering: bool,
     pub is_input_broken: bool,
     pub is_output_broken: bool,
+}
+
+impl<'a, R, W> Pair<'a, R, W> {
+    /// Returns the two devices, of which nothing is read or written yet. Line feeds are answered where that is so.
+    pub fn new(reader: &'a mut R, writer: &'a mut W, is_answering: bool) -> Pair<'a, R, W>
+        ensures { result ≡ record {
+          reader = reader.entry;
+          writer = writer.entry;
+          reads = 0;
+          owed = 0;
+          is_answering = is_answering;
+          is_input_broken = false;
+          is_output_broken = false;
+        } }
+    {
+        Pair {
+            reader,
+            writer,
+            reads: 0,
+            owed: 0,
+            is_answering,
+            is_input_broken: false,
+            is_output_broken: false,
+        }
+    }
 }
 
 impl<R: Read, W: Write> Ends for Pair<'_, R, W> {

@@ -6,6 +6,7 @@ ghost use Rattle.ll_wire.specs.Grammar.{line_of, mode_text, call_tokens, IsCall,
 ghost use Rattle.ll_wire.specs.Grammar.{IsReply, reply_line};
 
 use crate::bytes::data_text;
+use crate::spelled::is_entered;
 use ll_decide::Denial;
 use ll_path::{Data, Name, Target};
 use ll_rights::{Access, Errno};
@@ -300,6 +301,20 @@ pub fn reply_text(alloc: Global, reply: &Reply) -> Result<String, AllocError>
     ensures { IfOk result (λ text. string_bytes text ≡ reply_line reply.now) }
 {
     ended(reply_body(alloc, reply)?)
+}
+
+/// Returns the line of a reply that a tree gives. Errors: memory ran out.
+pub fn reply_line(alloc: Global, reply: &Reply) -> Result<String, AllocError>
+    ensures { IfOk result (λ line. string_bytes line ≡ reply_line reply.now) }
+{
+    match reply {
+        Reply::Refused(errno) => ended(refusal_text(alloc, *errno)?),
+        reply => {
+            reply.by_type();
+            is_entered(reply);
+            reply_text(alloc, reply)
+        }
+    }
 }
 
 /// Returns the line of a word followed by a reply. Errors: memory ran out.

@@ -24,5 +24,5 @@ returns g c =
       is_answering = ends.is_answering;
       is_input_broken = ends.is_input_broken;
       is_output_broken = ends.is_output_broken;
-    }) (map (λ it. it.rider) c.visit.result.0.items) c.in-Ok.ensures c.visit.ensures.ok c.visit.ensures.err
-    c.visit.ensures.fault
+    }) (map (λ it. it.rider) c.visit.result.0.items) c.in-Ok.ensures (rw c.new-ends.ensures at c.visit.ensures.ok)
+    (rw c.new-ends.ensures at c.visit.ensures.err) (rw c.new-ends.ensures at c.visit.ensures.fault)
