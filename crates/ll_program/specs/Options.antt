@@ -138,11 +138,11 @@ order_in o =
     let text = option_map (λ t. t.now) in
     record {
       script = o.script.now;
-      nodes = o.nodes;
-      level = o.level;
-      history = o.history;
-      policy = text o.policy;
-      profile = text o.profile;
+      nodes = o.tree.nodes;
+      level = o.tree.level;
+      history = o.tree.history;
+      policy = text o.tree.policy;
+      profile = text o.tree.profile;
       save = text o.save;
       strict = o.strict;
       comments = o.comments;
@@ -186,11 +186,11 @@ served_in o =
       idle = o.idle;
       room = o.room;
       log = o.log;
-      nodes = o.nodes;
-      level = o.level;
-      history = o.history;
-      policy = text o.policy;
-      profile = text o.profile;
+      nodes = o.tree.nodes;
+      level = o.tree.level;
+      history = o.tree.history;
+      policy = text o.tree.policy;
+      profile = text o.tree.profile;
       save = text o.save;
     }
 

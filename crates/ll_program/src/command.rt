@@ -113,6 +113,19 @@ fn history_option<'a>(alloc: Global) -> Arg<'a>
     .default_value("10000")
 }
 
+// Asks for objects in place of text.
+pub(crate) fn object_option<'a>(alloc: Global) -> Arg<'a>
+    ensures rule { rule_of result ≡ valued (codes "as") }
+    ensures local { result.global ≡ false }
+{
+    valued(
+        alloc,
+        "as",
+        "FORM",
+        "Print an object for another program on each line: json",
+    )
+}
+
 pub(crate) fn policy_option<'a>(alloc: Global) -> Arg<'a>
     ensures rule { rule_of result ≡ valued (codes "policy") }
     ensures local { result.global ≡ false }
@@ -515,12 +528,7 @@ fn why_command<'a>(alloc: Global) -> Result<Command<'a>, AllocError>
         policy_option(alloc),
         profile_option(alloc),
         nodes_option(alloc),
-        valued(
-            alloc,
-            "as",
-            "FORM",
-            "Print an object for another program on each line: json",
-        ),
+        object_option(alloc),
     ]?;
     command_of(
         alloc,

@@ -10,6 +10,7 @@ use crate::learn::LearnOptions;
 use crate::report::ReportForm;
 use crate::rights::RightsOptions;
 use crate::serve::ServeOptions;
+use crate::tree::TreeOptions;
 use crate::values::number_of;
 use crate::why::WhyOptions;
 use clap::{ArgMatches, Error};
@@ -20,25 +21,16 @@ use std::alloc::{AllocError, Global};
 /// The greatest line number that `--from` and `--to` of a schedule's picture accept.
 pub(crate) const LINES: u64 = 1_000_000_000;
 
-/// The options of `run`: the script's file (`-` is standard input); the limit of live nodes; the ABI level, or the
-/// policy file and the first client's profile; the limit of history entries, and the file to save the history in, if
+/// The options of `run`: the script's file (`-` is standard input); its tree's; the file to save the history in, if
 /// any; whether the run is strict; and whether the script may have comments and blank lines. A strict run ends at the
 /// first bad line, or at the first refusal of a call that sets up layers.
 #[derive(Drop)]
 pub struct RunOptions<'a> {
     pub script: &'a str,
-    pub nodes: usize,
-    pub level: Option<Abi>,
-    pub history: usize,
-    pub policy: Option<&'a str>,
-    pub profile: Option<&'a str>,
+    pub tree: TreeOptions<'a>,
     pub save: Option<&'a str>,
     pub strict: bool,
     pub comments: bool,
-    ghost some: { 1 ≤ nodes },
-    ghost most: { nodes ≤ TREE_NODES },
-    ghost some_entries: { 1 ≤ history },
-    ghost most_entries: { history ≤ HISTORY_ENTRIES },
 }
 
 impl<'a> RunOptions<'a> {
@@ -69,13 +61,16 @@ impl<'a> RunOptions<'a> {
         let save = run.get_str("save");
         let strict = CheckOptions::is_set(run, "strict");
         let comments = CheckOptions::is_set(run, "comments");
-        Some(RunOptions {
-            script,
+        let tree = TreeOptions {
             nodes: nodes as usize,
             level,
             history: history as usize,
             policy,
             profile,
+        };
+        Some(RunOptions {
+            script,
+            tree,
             save,
             strict,
             comments,
@@ -87,13 +82,9 @@ impl<'a> RunOptions<'a> {
     pub fn fit(&self) -> bool
         ensures { result ≡ fits (order_in self.now) }
     {
-        let is_set_up = match self.policy {
-            Some(_) => self.level.is_none(),
-            None => self.profile.is_none(),
-        };
-        is_set_up
+        self.tree.fit()
             && !names_input(self.save, file_of(self.script))
-            && !names_input(self.save, self.policy)
+            && !names_input(self.save, self.tree.policy)
     }
 }
 
@@ -249,12 +240,7 @@ impl<'a> CheckOptions<'a> {
     pub fn fit(&self) -> bool
         ensures { result ≡ fits_check (checked_in self.now) }
     {
-        let is_set_up = if self.policy.is_some() {
-            self.level.is_none()
-        } else {
-            self.profile.is_none()
-        };
-        is_set_up && self.report_fits() && !(self.schedule && self.policy.is_some())
+        self.tree().fit() && self.report_fits() && !(self.schedule && self.policy.is_some())
     }
 }
 

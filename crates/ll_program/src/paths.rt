@@ -57,10 +57,7 @@ pub fn paths_of(alloc: Global, words: &[&str]) -> Result<Vec<Path>, Failure>
 {
     let mut paths = Vec::new(alloc);
     for word in words {
-        let path = match path_of_word(alloc, word) {
-            Ok(path) => path,
-            Err(failure) => return Err(failure),
-        };
+        let path = path_of_word(alloc, word)?;
         match push_path(&mut paths, path) {
             Ok(()) => {}
             Err(failure) => return Err(failure),

@@ -115,10 +115,7 @@ pub fn setup_of<R: Read>(
     if options.policy.is_none() {
         return Ok(by_level(alloc, options));
     }
-    let text = match read_text(alloc, file) {
-        Ok(text) => text,
-        Err(failure) => return Err(failure),
-    };
+    let text = read_text(alloc, file)?;
     match policy_of(alloc, text.as_slice()) {
         Ok(policy) => by_policy(alloc, options, &policy),
         Err(failure) => Err(failure),

@@ -144,15 +144,7 @@ fn perform<H: Wait, D: Write + Drop, R: Read, W: Write>(
         × (failure ≡ failure_of fault)
         × HasBegun is_strict setup (R.remaining script.old) (W.contents out.old) (W.contents out.new) fault) }
 {
-    let mut ends = Pair {
-        reader: script,
-        writer: out,
-        reads: 0,
-        owed: 0,
-        is_answering: true,
-        is_input_broken: false,
-        is_output_broken: false,
-    };
+    let mut ends = Pair::new(script, out, true);
     perform_over(rt, alloc, setup, is_strict, record, &mut ends)
 }
 
@@ -361,20 +353,11 @@ pub fn run<H: Wait, P: Read, R: Read, W: Write, F: Destination>(
         × MayFail (order_in options.now) text (R.remaining script.old) (R.remaining script.new)
         (W.contents out.old) (W.contents out.new) failure) }
 {
-    let setup = match setup_of(alloc, &options.tree(), policy) {
-        Ok(setup) => setup,
-        Err(failure) => return Err(failure),
-    };
+    let setup = setup_of(alloc, &options.tree, policy)?;
     let header = header_of(&setup);
-    let it = match perform_asked(rt, alloc, options, setup, script, out, file) {
-        Ok(it) => it,
-        Err(failure) => return Err(failure),
-    };
+    let it = perform_asked(rt, alloc, options, setup, script, out, file)?;
     let Performed { run, stop, refusal } = it;
-    let conclusion = match conclude(alloc, options.script, &stop) {
-        Ok(conclusion) => conclusion,
-        Err(failure) => return Err(failure),
-    };
+    let conclusion = conclude(alloc, options.script, &stop)?;
     let refusal = refusal_in(stop, refusal);
     match save_where_named(alloc, options, header, run, file) {
         Ok(()) => Ok(Ran {
@@ -422,14 +405,6 @@ pub fn audit<R: Read, W: Write, P: Progress>(
     ensures failure { IfErr result
         (FailsAudit (R.remaining file.old) (W.contents out.old) (W.contents out.new)) }
 {
-    let mut ends = Pair {
-        reader: file,
-        writer: out,
-        reads: 0,
-        owed: 0,
-        is_answering: false,
-        is_input_broken: false,
-        is_output_broken: false,
-    };
+    let mut ends = Pair::new(file, out, false);
     audit_over(alloc, &mut ends, progress)
 }

@@ -7,7 +7,8 @@ ghost use Rattle.ll_program.specs.Apps.{rights};
 ghost use Rattle.ll_rights.specs.declared.limits.TheConstants.{TREE_NODES};
 
 use crate::command::{
-    command_of, flag, nodes_option, one_or_more, policy_option, profile_option, valued,
+    command_of, flag, nodes_option, object_option, one_or_more, policy_option, profile_option,
+    valued,
 };
 use crate::options::CheckOptions;
 use crate::report::AnswerForm;
@@ -156,12 +157,7 @@ pub(crate) fn rights_command<'a>(alloc: Global) -> Result<Command<'a>, AllocErro
             "layers",
             "Add a column for each layer: what it grants, by the rule on which directory",
         ),
-        valued(
-            alloc,
-            "as",
-            "FORM",
-            "Print an object for another program on each line: json",
-        ),
+        object_option(alloc),
     ]?;
     command_of(
         alloc,

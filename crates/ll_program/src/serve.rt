@@ -2,13 +2,12 @@
 
 ghost use Rattle.std.specs.Prelude.{◌≡◌, ◌≤◌, option_map, IfSome};
 ghost use Rattle.std.proofs.Props.{props};
-ghost use Rattle.ll_rights.specs.declared.limits.TheConstants.{HISTORY_ENTRIES, TREE_NODES};
 
 use crate::inputs::names_input;
 use crate::options::{CheckOptions, RunOptions};
+use crate::tree::TreeOptions;
 use crate::values::number_of;
 use clap::ArgMatches;
-use ll_rights::Abi;
 use ll_rights::limits::{HISTORY_ENTRIES, TREE_NODES};
 
 /// The greatest port number.
@@ -38,11 +37,7 @@ pub struct ServeOptions<'a> {
     pub idle: Option<u64>,
     pub room: u64,
     pub log: bool,
-    pub nodes: usize,
-    pub level: Option<Abi>,
-    pub history: usize,
-    pub policy: Option<&'a str>,
-    pub profile: Option<&'a str>,
+    pub tree: TreeOptions<'a>,
     pub save: Option<&'a str>,
     ghost some_port: { 1 ≤ port },
     ghost some_workers: { 1 ≤ workers },
@@ -52,10 +47,6 @@ pub struct ServeOptions<'a> {
     ghost idle_within: { IfSome idle (λ seconds. (1 ≤ seconds) × (seconds ≤ 3600)) } by { Prim.hlevel props },
     ghost some_room: { 1 ≤ room },
     ghost most_room: { room ≤ 65536 },
-    ghost some: { 1 ≤ nodes },
-    ghost most: { nodes ≤ TREE_NODES },
-    ghost some_entries: { 1 ≤ history },
-    ghost most_entries: { history ≤ HISTORY_ENTRIES },
 }
 
 impl<'a> ServeOptions<'a> {
@@ -79,6 +70,13 @@ impl<'a> ServeOptions<'a> {
         let policy = serve.get_str("policy");
         let profile = serve.get_str("profile");
         let save = serve.get_str("save");
+        let tree = TreeOptions {
+            nodes: nodes as usize,
+            level,
+            history: history as usize,
+            policy,
+            profile,
+        };
         Some(ServeOptions {
             port: port as u16,
             workers: workers as usize,
@@ -86,11 +84,7 @@ impl<'a> ServeOptions<'a> {
             idle,
             room,
             log,
-            nodes: nodes as usize,
-            level,
-            history: history as usize,
-            policy,
-            profile,
+            tree,
             save,
         })
     }
@@ -100,11 +94,6 @@ impl<'a> ServeOptions<'a> {
     pub fn fit(&self) -> bool
         ensures { result ≡ fits_serve (served_in self.now) }
     {
-        let is_set_up = if self.policy.is_some() {
-            self.level.is_none()
-        } else {
-            self.profile.is_none()
-        };
-        is_set_up && !names_input(self.save, self.policy)
+        self.tree.fit() && !names_input(self.save, self.tree.policy)
     }
 }

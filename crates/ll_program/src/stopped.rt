@@ -7,7 +7,8 @@ ghost use Rattle.ll_program.specs.Stopped.{bad_line};
 
 use ll_rights::Errno;
 use ll_seq::Reply;
-use ll_session::{Stop, reply_line};
+use ll_session::Stop;
+use ll_wire::reply_line;
 use std::alloc::{AllocError, Global};
 use std::fmt;
 use std::fmt::Display;

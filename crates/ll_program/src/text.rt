@@ -29,15 +29,8 @@ pub fn write_bytes<W: Write>(bytes: &[u8], out: &mut W) -> Result<(), Failure>
     ensures failure { IfErr result (λ failure. (failure ≡ Failure.Output)
         × AppendsFront (W.contents out.old) (W.contents out.new) bytes.now) }
 {
-    let mut ends = Pair {
-        reader: &mut empty(),
-        writer: out,
-        reads: 0,
-        owed: 0,
-        is_answering: false,
-        is_input_broken: false,
-        is_output_broken: false,
-    };
+    let mut nothing = empty();
+    let mut ends = Pair::new(&mut nothing, out, false);
     match write_out(&mut ends, bytes) {
         Ok(()) => Ok(()),
         Err(_) => Err(Failure::Output),

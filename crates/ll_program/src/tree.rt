@@ -4,8 +4,7 @@ ghost use Rattle.std.specs.Prelude.{◌≡◌, ◌≤◌};
 ghost use Rattle.ll_rights.specs.declared.limits.TheConstants.{HISTORY_ENTRIES, TREE_NODES};
 
 use crate::learn::LearnOptions;
-use crate::options::{CheckOptions, RunOptions};
-use crate::serve::ServeOptions;
+use crate::options::CheckOptions;
 use ll_rights::Abi;
 use ll_rights::limits::{HISTORY_ENTRIES, TREE_NODES};
 
@@ -25,7 +24,7 @@ pub struct TreeOptions<'a> {
 }
 
 impl<'a> TreeOptions<'a> {
-    ghost use Rattle.ll_program.specs.Options.{profile_tree, tree_in};
+    ghost use Rattle.ll_program.specs.Options.{go_together, profile_tree, tree_in};
 
     /// Returns the options of a tree whose first client has the profile of a policy, and whose history isn't needed.
     pub fn of_profile(policy: &'a str, profile: &'a str, nodes: usize) -> TreeOptions<'a>
@@ -41,38 +40,15 @@ impl<'a> TreeOptions<'a> {
             profile: Some(profile),
         }
     }
-}
 
-impl<'a> RunOptions<'a> {
-    ghost use Rattle.ll_program.specs.Options.{order_in, tree_in, tree_of};
-
-    /// Returns the options of the run's tree.
-    pub fn tree(&self) -> TreeOptions<'a>
-        ensures { tree_in result ≡ tree_of (order_in self.now) }
+    /// Reports whether no level is given with a policy, and no profile without one.
+    pub fn fit(&self) -> bool
+        ensures { result ≡ go_together (tree_in self.now).level (tree_in self.now).policy (tree_in self.now).profile }
     {
-        TreeOptions {
-            nodes: self.nodes,
-            level: self.level,
-            history: self.history,
-            policy: self.policy,
-            profile: self.profile,
-        }
-    }
-}
-
-impl<'a> ServeOptions<'a> {
-    ghost use Rattle.ll_program.specs.Options.{served_in, served_tree, tree_in};
-
-    /// Returns the options of the tree that connections are served on.
-    pub fn tree(&self) -> TreeOptions<'a>
-        ensures { tree_in result ≡ served_tree (served_in self.now) }
-    {
-        TreeOptions {
-            nodes: self.nodes,
-            level: self.level,
-            history: self.history,
-            policy: self.policy,
-            profile: self.profile,
+        if self.policy.is_some() {
+            self.level.is_none()
+        } else {
+            self.profile.is_none()
         }
     }
 }

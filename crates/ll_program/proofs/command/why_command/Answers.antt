@@ -12,7 +12,7 @@ returns-clause-app c =
     (ap₂ ◌∷◌ c.policy_option.ensures.rule
     (ap₂ ◌∷◌ c.profile_option.ensures.rule
     (ap₂ ◌∷◌ c.nodes_option.ensures.rule
-    (ap₂ ◌∷◌ c.valued.ensures.rule refl)))))
+    (ap₂ ◌∷◌ c.object_option.ensures.rule refl)))))
     c.command_of.ensures.app
 
 pub command_of-requires : goal.command_of-requires
@@ -23,7 +23,7 @@ command_of-requires c =
         c.policy_option.ensures.local,
         (
           c.profile_option.ensures.local,
-          (c.nodes_option.ensures.local, (c.valued.ensures.local, tt)),
+          (c.nodes_option.ensures.local, (c.object_option.ensures.local, tt)),
         ),
       ),
     )

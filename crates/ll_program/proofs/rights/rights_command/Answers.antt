@@ -16,7 +16,7 @@ returns-clause-app c =
     (ap₂ ◌∷◌ c.valued.ensures.rule
     (ap₂ ◌∷◌ c.nodes_option.ensures.rule
     (ap₂ ◌∷◌ c.flag-2.ensures.rule
-    (ap₂ ◌∷◌ c.valued-2.ensures.rule refl))))))))
+    (ap₂ ◌∷◌ c.object_option.ensures.rule refl))))))))
     c.command_of.ensures.app
 
 pub command_of-requires : goal.command_of-requires
@@ -33,7 +33,7 @@ command_of-requires c =
               c.valued.ensures.local,
               (
                 c.nodes_option.ensures.local,
-                (c.flag-2.ensures.local, (c.valued-2.ensures.local, tt)),
+                (c.flag-2.ensures.local, (c.object_option.ensures.local, tt)),
               ),
             ),
           ),
