@@ -13,6 +13,7 @@ ghost use Rattle.ll_check.specs.Files.{HasBegun, IsStopped, MayFail, MayStop};
 ghost use Rattle.ll_check.specs.Files.{end_of, room_for, source_of, style_of};
 ghost use Rattle.ll_check.specs.Styles.{head, tail};
 
+use crate::missteps::blame_step;
 use crate::policies::{tell_own, tree_for};
 use crate::reading::{ReadFile, read_sections};
 use crate::runner::Runner;
@@ -39,6 +40,22 @@ pub struct CheckInput<'a, 'w, 'p> {
     pub policy: &'a [u8],
     pub policies: &'a [NamedText<'p>],
     pub files: &'a [NamedText<'w>],
+}
+
+/// What a file's tests try: a command of a client, or a step of a schedule.
+#[derive(Clone, Copy)]
+pub(crate) enum TestKind {
+    Command,
+    Step,
+}
+
+impl TestKind {
+    fn name(self) -> &'static str {
+        match self {
+            TestKind::Command => "command",
+            TestKind::Step => "step",
+        }
+    }
 }
 
 /// Why a file can't be read, and its index, from 0.
@@ -357,19 +374,31 @@ fn tell_stopped<E: Write, N: Notes>(
 }
 
 // Prints where a file's line is neither silent nor a test, and what is expected there.
-fn tell_line<E: Write>(alloc: Global, file: &NamedText<'_>, line: usize, err: &mut E) {
-    let name = file.name;
-    let Ok(Some(blame)) = explain(alloc, LinesOf::Checks, file.text.as_slice(), line) else {
-        let _ = writeln!(err, "{name}:{line}:1: a command is expected, or a comment");
+fn tell_line<E: Write>(
+    alloc: Global,
+    file: &NamedText<'_>,
+    kind: TestKind,
+    line: usize,
+    err: &mut E,
+) {
+    let (name, text) = (file.name, file.text.as_slice());
+    let found = match kind {
+        TestKind::Command => explain(alloc, LinesOf::Checks, text, line),
+        TestKind::Step => blame_step(alloc, text, line),
+    };
+    let Ok(Some(blame)) = found else {
+        let wanted = kind.name();
+        let _ = writeln!(err, "{name}:{line}:1: a {wanted} is expected, or a comment");
         return;
     };
     blame.tell(name, line, err);
 }
 
-/// Prints where a line is neither silent nor a test, if that is why files can't be read.
+/// Prints where a line is neither silent nor a test of this kind, if that is why files can't be read.
 pub(crate) fn tell_bad<E: Write>(
     alloc: Global,
     files: &[NamedText<'_>],
+    kind: TestKind,
     bad: BadFile,
     err: &mut E,
 ) -> Result<Checked, Failure>
@@ -380,7 +409,7 @@ pub(crate) fn tell_bad<E: Write>(
     match bad.fault {
         CheckFault::BadLine(line) => {
             if let Some(file) = files.get(bad.file) {
-                tell_line(alloc, file, line, err);
+                tell_line(alloc, file, kind, line, err);
             }
             Ok(Checked::BadLine)
         }
@@ -413,7 +442,7 @@ pub fn check<R: Runner, W: Write, E: Write, N: Notes>(
 {
     let files = match read_all(alloc, input.files) {
         Ok(files) => files,
-        Err(bad) => return tell_bad(alloc, input.files, bad, err),
+        Err(bad) => return tell_bad(alloc, input.files, TestKind::Command, bad, err),
     };
     tell_no_profile(input.options, err);
     tell_untested(files.as_slice(), err);

@@ -12,8 +12,7 @@ use crate::styles::{Syntax, TestTexts};
 use crate::wanted::{Wanted, push_wanted};
 use ll_program::body_of;
 use ll_seq::Reply;
-use ll_session::reply_line;
-use ll_wire::{command_text, escaped, is_spelled};
+use ll_wire::{command_text, escaped, is_spelled, reply_line};
 use std::alloc::{AllocError, Global};
 
 /// The style of a report: lines of text on fewer or more of the tests, or all tests for other programs.

@@ -17,7 +17,7 @@ ghost use Rattle.ll_check.specs.Lessons.{AreTaught, AreTried, EndsLessons, Fails
 ghost use Rattle.ll_check.specs.Lessons.{IsBlank, IsHindered, IsProfile, IsTaughtBy, TeachNothing, is_of_lessons};
 ghost use Rattle.ll_check.specs.Lessons.{learner, lessons_of, picked};
 
-use crate::checks::{NamedText, have_tests, read_all, tell_bad, tell_untested};
+use crate::checks::{NamedText, TestKind, have_tests, read_all, tell_bad, tell_untested};
 use crate::crowd::{Crowd, crowd_of};
 use crate::denied::Notes;
 use crate::lessons::{FileLessons, LessonNotes, lessons_in};
@@ -174,10 +174,7 @@ fn profile_by<E: Write>(
         (FailsToLearn (learn_in trees.now.options.now) trees.now.policy.now (map picked lessons.now)) }
 {
     let header = header_of(blank);
-    let entries = match entries_of(trees.alloc, histories) {
-        Ok(entries) => entries,
-        Err(failure) => return Err(failure),
-    };
+    let entries = entries_of(trees.alloc, histories)?;
     let taught = Taught {
         lessons,
         histories: entries.as_slice(),
@@ -208,10 +205,7 @@ fn taught_by<R: Runner, E: Write>(
     ensures failure { IfErr result
         (FailsToLearn (learn_in trees.now.options.now) trees.now.policy.now (map picked lessons.now)) }
 {
-    let blank = match trees.blank() {
-        Ok(blank) => blank,
-        Err(failure) => return Err(failure),
-    };
+    let blank = trees.blank()?;
     let histories = match teach_all(runner, trees, lessons, err) {
         Ok(Some(histories)) => histories,
         Ok(None) => return Ok(None),
@@ -270,10 +264,7 @@ impl Lesson {
             self.now.profile (map tests_of files.now)) }
         ensures failure { IfErr result (FailsToMake (learn_in trees.now.options.now) trees.now.policy.now) }
     {
-        let entries = match entries_of(trees.alloc, self.histories.as_slice()) {
-            Ok(entries) => entries,
-            Err(failure) => return Err(failure),
-        };
+        let entries = entries_of(trees.alloc, self.histories.as_slice())?;
         let candidate = Candidate {
             profile: &self.profile,
             taught: Taught {
@@ -343,10 +334,7 @@ fn text_of<R: Runner, E: Write, N: Notes>(
     ensures failure { IfErr result (FailsToLearn (learn_in trees.now.options.now) trees.now.policy.now
         (map lessons_of (map tests_of files.now))) }
 {
-    let lessons = match lessons_in(trees.alloc, files) {
-        Ok(lessons) => lessons,
-        Err(failure) => return Err(failure),
-    };
+    let lessons = lessons_in(trees.alloc, files)?;
     let lesson = match taught_by(runner, trees, request, lessons.as_slice(), err) {
         Ok(Some(lesson)) => lesson,
         Ok(None) => return Ok(None),
@@ -410,13 +398,10 @@ pub fn learn_files<R: Runner, W: Write, E: Write, N: Notes>(
     ensures { EndsLessons (learn_in input.now.options.now) input.now.policy.now (map source_of input.now.files.now)
         (W.contents out.old) (W.contents out.new) result }
 {
-    let request = match Request::of_options(alloc, input.options) {
-        Ok(request) => request,
-        Err(failure) => return Err(failure),
-    };
+    let request = Request::of_options(alloc, input.options)?;
     let read = match read_all(alloc, input.files) {
         Ok(read) => read,
-        Err(bad) => return tell_bad(alloc, input.files, bad, err),
+        Err(bad) => return tell_bad(alloc, input.files, TestKind::Command, bad, err),
     };
     let files = read.as_slice();
     if have_own(files) {

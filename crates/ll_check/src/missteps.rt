@@ -1,13 +1,11 @@
 //! What is wrong with a schedule's line that is neither silent nor a test. No contract says what is printed: it helps
 //! whoever wrote it.
 
-use crate::checks::NamedText;
 use crate::explaining::{Blame, LinesOf, blame_editor, explain, line_at};
 use crate::lines::ended;
 use crate::steps::step_of;
 use ll_program::body_of;
 use std::alloc::{AllocError, Global};
-use std::io::Write;
 
 /// What may stand behind the sign `=`.
 const OUTCOMES: &str =
@@ -65,8 +63,13 @@ fn before_sign(body: &[u8]) -> &[u8] {
     body
 }
 
-// Returns what is wrong with the line of this number, from 1.
-fn blame_step(alloc: Global, text: &[u8], number: usize) -> Result<Option<Blame>, AllocError> {
+/// Returns what is wrong with the line of this number, from 1, where it is neither silent nor a test of a step. Errors:
+/// memory ran out.
+pub(crate) fn blame_step(
+    alloc: Global,
+    text: &[u8],
+    number: usize,
+) -> Result<Option<Blame>, AllocError> {
     let body = body_of(line_at(text, number));
     if let Some(blame) = blame_editor(body, number) {
         return Ok(Some(blame));
@@ -76,19 +79,4 @@ fn blame_step(alloc: Global, text: &[u8], number: usize) -> Result<Option<Blame>
     }
     let line = ended(alloc, before_sign(body))?;
     explain(alloc, LinesOf::Schedule, line.as_slice(), 1)
-}
-
-/// Prints where a schedule's line is neither silent nor a test, and what is expected there.
-pub(crate) fn tell_misstep<E: Write>(
-    alloc: Global,
-    file: &NamedText<'_>,
-    line: usize,
-    err: &mut E,
-) {
-    let name = file.name;
-    let Ok(Some(blame)) = blame_step(alloc, file.text.as_slice(), line) else {
-        let _ = writeln!(err, "{name}:{line}:1: a step is expected, or a comment");
-        return;
-    };
-    blame.tell(name, line, err);
 }

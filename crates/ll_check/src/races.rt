@@ -5,16 +5,13 @@ ghost use Rattle.std.specs.List.{AllZip, list_all};
 ghost use Rattle.ll_steps.specs.Tells.{Does};
 ghost use Rattle.ll_wire.specs.Transcript.{Writes};
 ghost use Rattle.ll_program.specs.Options.{checked_in};
-ghost use Rattle.ll_program.specs.declared.checked.Checked as checked;
 ghost use Rattle.ll_check.specs.Files.{HasBegun, source_of};
 ghost use Rattle.ll_check.specs.Races.{AreRun, ConcludesRaces, IsRaceCheck, IsRaceSetup, IsRun, IsStepMade, JudgedStep};
 ghost use Rattle.ll_check.specs.Races.{RunsSteps, end_of_races, shown_step};
 ghost use Rattle.ll_check.specs.Steps.{has_step, steps_of};
 
-use crate::checks::{BadFile, NamedText, report_around, style_of};
+use crate::checks::{NamedText, TestKind, report_around, style_of, tell_bad};
 use crate::judging::{Reporter, Tally};
-use crate::missteps::tell_misstep;
-use crate::reading::CheckFault;
 use crate::steps::{StepFile, StepTest, read_all_steps};
 use ll_laws::Step;
 use ll_program::{CheckOptions, Checked, Failure, write_bytes};
@@ -220,28 +217,6 @@ fn conclude<W: Write>(
     }
 }
 
-// Prints where a line is neither silent nor a test, if that is why schedules can't be read.
-fn tell_bad<E: Write>(
-    alloc: Global,
-    files: &[NamedText<'_>],
-    bad: BadFile,
-    err: &mut E,
-) -> Result<Checked, Failure>
-    ensures line { IfOk result (λ end. (end ≡ checked.Checked.BadLine)
-        × (line : ℕ) × (bad.fault ≡ CheckFault.BadLine line)) }
-    ensures failure { IfErr result (λ failure. failure ≡ Failure.NoMemory) }
-{
-    match bad.fault {
-        CheckFault::BadLine(line) => {
-            if let Some(file) = files.get(bad.file) {
-                tell_misstep(alloc, file, line, err);
-            }
-            Ok(Checked::BadLine)
-        }
-        CheckFault::NoMemory => Err(Failure::NoMemory),
-    }
-}
-
 /// Checks schedules, each in a tree of its own, and writes the report. All are read before anything is run. If a line
 /// says nothing, that is printed to `err`, and nothing else is done. A schedule without a test is printed there too.
 /// Errors: `out` fails, or memory ran out.
@@ -260,7 +235,7 @@ pub fn check_schedules<W: Write, E: Write>(
 {
     let read = match read_all_steps(alloc, files) {
         Ok(read) => read,
-        Err(bad) => return tell_bad(alloc, files, bad, err),
+        Err(bad) => return tell_bad(alloc, files, TestKind::Step, bad, err),
     };
     tell_untested(read.as_slice(), err);
     conclude(alloc, options, read.as_slice(), out)

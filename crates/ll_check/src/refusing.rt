@@ -2,8 +2,7 @@
 
 use crate::judging::{Reporter, push_label};
 use ll_seq::{Call, Entry, Reply};
-use ll_session::reply_line;
-use ll_wire::{command_text, is_spelled, reply_text_behind};
+use ll_wire::{command_text, is_spelled, reply_line, reply_text_behind};
 use std::alloc::{AllocError, Global};
 
 /// How many of its profile's calls a client has made: the number of the current layer, from 1, and how many of that

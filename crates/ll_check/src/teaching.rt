@@ -104,10 +104,7 @@ fn teach<R: Runner, E: Write>(
     ensures failure { IfErr result (FailsToMake (learn_in trees.now.options.now) trees.now.policy.now) }
 {
     let lessons = file.tests.as_slice();
-    let setup = match trees.tree(Vec::new(trees.alloc), lessons.len()) {
-        Ok(setup) => setup,
-        Err(failure) => return Err(failure),
-    };
+    let setup = trees.tree(Vec::new(trees.alloc), lessons.len())?;
     let (made, history) = match make_lessons(runner, trees.alloc, setup, lessons) {
         Ok(done) => done,
         Err(fault) => return Err(failure_of(fault)),

@@ -35,10 +35,7 @@ fn passes_under<R: Runner, E: Write, N: Notes>(
     let Ok(calls) = candidate.profile.calls(trees.alloc) else {
         return Err(Failure::NoMemory);
     };
-    let setup = match trees.tree(calls, tests.len()) {
-        Ok(setup) => setup,
-        Err(failure) => return Err(failure),
-    };
+    let setup = trees.tree(calls, tests.len())?;
     let header = header_of(&setup);
     let reporter = Reporter {
         alloc: trees.alloc,

@@ -14,8 +14,7 @@ use crate::lines::{ended, strip_back, strip_front};
 use ll_decide::Place;
 use ll_rights::{Errno, Right};
 use ll_seq::Reply;
-use ll_session::reply_line;
-use ll_wire::{FirstWords, first_words_text, read_first_words, read_reply};
+use ll_wire::{FirstWords, first_words_text, read_first_words, read_reply, reply_line};
 use std::alloc::{AllocError, Global};
 
 /// The expected reply to a command.

@@ -33,7 +33,7 @@ returns-clause-taught g c =
       };
     } in
     let same = ap (map (λ (es : Bor (List Entry)). es.now)) c.as_slice.ensures.value
-    ∙ c.in-Ok.ensures.entries in
+    ∙ c.in_ok-entries.ensures.entries in
     taught_so order policy lessons course c.header_of-header.result
     (map (λ (es : Bor (List Entry)). es.now) c.as_slice.result.now) aim c.header_of-header.ensures.header same refl
     c.learned_from.result c.learned_from.ensures.learned
@@ -63,7 +63,7 @@ returns-clause-failure g c =
       };
     } in
     let same = ap (map (λ (es : Bor (List Entry)). es.now)) c.as_slice.ensures.value
-    ∙ c.in-Ok.ensures.entries in
+    ∙ c.in_ok-entries.ensures.entries in
     untaught_so order policy lessons course c.header_of-header.result
     (map (λ (es : Bor (List Entry)). es.now) c.as_slice.result.now) aim c.header_of-header.ensures.header same refl
     c.learned_from.result c.learned_from.ensures.failure
@@ -93,7 +93,7 @@ returns-clause-nothing g c =
       };
     } in
     let same = ap (map (λ (es : Bor (List Entry)). es.now)) c.as_slice.ensures.value
-    ∙ c.in-Ok.ensures.entries in
+    ∙ c.in_ok-entries.ensures.entries in
     nothing_so order policy lessons course c.header_of-header.result
     (map (λ (es : Bor (List Entry)). es.now) c.as_slice.result.now) aim c.header_of-header.ensures.header same refl
     c.learned_from.result c.learned_from.ensures.nothing

@@ -6,11 +6,11 @@ use Rattle.ll_check.specs.Lessons.{AreTried, FailsToLearn, IsTaughtBy, TeachNoth
 use Rattle.ll_check.proofs.Trials.{tried_so}
 use Rattle.ll_check.proofs.learning.text_of.Goals as goal
 
-pub returns-in-Err-taught_by-clause-failure : goal.returns-in-Err-taught_by-clause-failure
-returns-in-Err-taught_by-clause-failure g c =
+pub returns-in-Err-clause-failure : goal.returns-in-Err-clause-failure
+returns-in-Err-clause-failure g c =
     subst (λ (x : List Tests). FailsToLearn (learn_in c.args.trees.now.options.now) c.args.trees.now.policy.now x
-    c.in-Err-taught_by.failure) (ap (map picked) c.as_slice.ensures.value ∙ c.in-Ok.ensures.lessons)
-    c.in-Err-taught_by.ensures.failure
+    c.in-Err.failure) (ap (map picked) c.as_slice.ensures.value ∙ c.in_ok-lessons.ensures.lessons)
+    c.in-Err.ensures.failure
 
 pub returns-then-not-are_few-clause-failure : goal.returns-then-not-are_few-clause-failure
 returns-then-not-are_few-clause-failure g c =
@@ -21,14 +21,14 @@ returns-then-not-are_few-clause-failure g c =
       inr (
         profile,
         subst (λ (x : List Tests). IsTaughtBy (learn_in c.args.trees.now.options.now) c.args.trees.now.policy.now x
-            profile) (ap (map picked) c.as_slice.ensures.value ∙ c.in-Ok.ensures.lessons) taught,
+            profile) (ap (map picked) c.as_slice.ensures.value ∙ c.in_ok-lessons.ensures.lessons) taught,
         subst (λ (n : ℕ). n < length profile.rules.items) c.requires.most
             (c.are_few.ensures.many c.if-not-are_few.true),
       ),
     )
 
-pub returns-in-Ok-text-clause-profile : goal.returns-in-Ok-text-clause-profile
-returns-in-Ok-text-clause-profile g c =
+pub returns-in-Ok-clause-profile : goal.returns-in-Ok-clause-profile
+returns-in-Ok-clause-profile g c =
     let profile = c.in-Ok-Some.lesson.profile in
     let taught = rw c.in-Ok-Some.field-0-is at c.in-Ok-Some.ensures.taught in
     record {
@@ -36,23 +36,24 @@ returns-in-Ok-text-clause-profile g c =
       profile = profile;
       taught = subst (λ (x : List Tests). IsTaughtBy (learn_in c.args.trees.now.options.now)
           c.args.trees.now.policy.now x profile)
-          (ap (map picked) c.as_slice.ensures.value ∙ c.in-Ok.ensures.lessons) taught;
+          (ap (map picked) c.as_slice.ensures.value ∙ c.in_ok-lessons.ensures.lessons) taught;
       few = subst (λ (n : ℕ). length profile.rules.items ≤ n) c.requires.most
           (c.are_few.ensures.few c.if-not-are_few.false);
       passes = tried_so (learn_in c.args.trees.now.options.now) c.args.trees.now.policy.now profile
           (map tests_of c.args.files.now) _ c.in-Ok-true.ensures.tried c.in-Ok-true.field-0-test;
       name = c.args.request.now.name.now;
       named = c.requires.name;
-      text = c.in-Ok-text.ensures
+      text = c.in-Ok.ensures
           ∙ ap (λ (x : List Tests). profile_text (lesson_note x) c.args.request.now.name.now profile)
-          (ap (map picked) c.as_slice-3.ensures.value ∙ c.in-Ok.ensures.lessons);
+          (ap (map picked) c.as_slice-3.ensures.value ∙ c.in_ok-lessons.ensures.lessons);
     }
 
 pub returns-in-Ok-None-clause-hindered : goal.returns-in-Ok-None-clause-hindered
 returns-in-Ok-None-clause-hindered g c =
     let nothing = rw c.in-Ok-None.field-0-is at c.in-Ok-None.ensures.nothing in
     inr (inl (subst (λ (x : List Tests). TeachNothing (learn_in c.args.trees.now.options.now)
-    c.args.trees.now.policy.now x) (ap (map picked) c.as_slice.ensures.value ∙ c.in-Ok.ensures.lessons) nothing))
+    c.args.trees.now.policy.now x) (ap (map picked) c.as_slice.ensures.value ∙ c.in_ok-lessons.ensures.lessons)
+    nothing))
 
 pub returns-in-Ok-false-clause-hindered : goal.returns-in-Ok-false-clause-hindered
 returns-in-Ok-false-clause-hindered g c =
@@ -61,7 +62,7 @@ returns-in-Ok-false-clause-hindered g c =
     inr (inr (
       profile,
       subst (λ (x : List Tests). IsTaughtBy (learn_in c.args.trees.now.options.now) c.args.trees.now.policy.now x
-          profile) (ap (map picked) c.as_slice.ensures.value ∙ c.in-Ok.ensures.lessons) taught,
+          profile) (ap (map picked) c.as_slice.ensures.value ∙ c.in_ok-lessons.ensures.lessons) taught,
       subst (λ (n : ℕ). length profile.rules.items ≤ n) c.requires.most
           (c.are_few.ensures.few c.if-not-are_few.false),
       subst (λ (b : Bool). AreTried (learn_in c.args.trees.now.options.now) c.args.trees.now.policy.now profile

@@ -9,18 +9,18 @@ use Rattle.ll_check.proofs.trial.passes_under.Goals as goal
 pub tree-requires : goal.tree-requires
 tree-requires g c = are_others c.args.candidate.now.profile.now c.in-Ok.calls.items c.in-Ok.ensures
 
-pub returns-in-Err-check_file-clause-failure : goal.returns-in-Err-check_file-clause-failure
-returns-in-Err-check_file-clause-failure g c =
+pub returns-in-Err-clause-failure : goal.returns-in-Err-clause-failure
+returns-in-Err-clause-failure g c =
     not_made (learn_in c.args.trees.now.options.now) c.args.trees.now.policy.now c.in-Ok.calls.items
-    (length c.as_slice-tests.result.now) c.in-Ok-tree.setup c.in-Err-check_file.fault c.failure_of.result
-    c.in-Ok-tree.ensures.setup c.in-Err-check_file.ensures.fault c.failure_of.ensures
+    (length c.as_slice-tests.result.now) c.in_ok-setup.setup c.in-Err.fault c.failure_of.result
+    c.in_ok-setup.ensures.setup c.in-Err.ensures.fault c.failure_of.ensures
 
 pub returns-clause-tried : goal.returns-clause-tried
 returns-clause-tried g c =
     let checked = c.in-Ok-check_file.checked in
     file_tried (learn_in c.args.trees.now.options.now) c.args.trees.now.policy.now c.args.candidate.now.profile.now
-    (tests_of c.args.file.now) c.as_slice-tests.result.now c.in-Ok.calls.items Usual c.in-Ok-tree.setup
+    (tests_of c.args.file.now) c.as_slice-tests.result.now c.in-Ok.calls.items Usual c.in_ok-setup.setup
     c.as_bytes.result.now c.as_slice.result.now checked.made checked.history.entries _ _ checked.tally
     c.as_slice-tests.ensures.value
-    c.in-Ok.ensures c.in-Ok-tree.ensures.setup c.in-Ok-check_file.ensures.checked
+    c.in-Ok.ensures c.in_ok-setup.ensures.setup c.in-Ok-check_file.ensures.checked
     (sym c.ran_out.ensures ∙ c.if-ran_out.false)
