@@ -3,9 +3,8 @@ use Rattle.std.specs.Prelude.{◌≡◌, ℕ, List, Option, None, Some, IfSome, 
 use Rattle.std.specs.Prelude.{IfErr, OnErr, false, refl, true}
 use Rattle.std.specs.Borrow.{Bor}
 use Rattle.std.specs.Io.KnownBytes.{Appends}
-use Rattle.std.proofs.Common.{ap, inl, inr, subst, sym, ◌∙◌}
-use Rattle.ll_program.specs.Options.{ServeOrder, TreeOrder, served_in, served_tree, tree_in}
-use Rattle.ll_program.specs.declared.tree.TreeOptions.{TreeOptions}
+use Rattle.std.proofs.Common.{inl, inr, subst, sym, ◌∙◌}
+use Rattle.ll_program.specs.Options.{ServeOrder, served_in, served_tree}
 use Rattle.ll_program.specs.declared.serve.ServeOptions.{ServeOptions}
 use Rattle.ll_program.specs.Failure.{IsOfSaving}
 use Rattle.ll_program.specs.Policy.{IsSaved, IsSetup, Lacks, header_of}
@@ -41,38 +40,24 @@ is_saved setup entries (Some name) blank file file' h some is saved =
 
 -- ---- by the options, and the text that the policy's file tells
 
-module _ (options : ServeOptions) (run : TreeOptions) (is : tree_in run ≡ served_tree (served_in options))
-    (policy : Option (List ℕ)) where
+module _ (options : ServeOptions) (policy : Option (List ℕ)) where
   abbrev Told : (List ℕ → Type 0) → Type 0
   Told Holds = (text : List ℕ) × IfSome policy (λ told. text ≡ told) × Holds text
 
   abbrev order : ServeOrder
   order = served_in options
 
-  pub unset : (out file : Option (List ℕ)) (failure : Failure) → is_some run.policy ≡ true
-      → Told (λ text. Lacks (tree_in run) text failure)
+  pub unset : (out file : Option (List ℕ)) (failure : Failure) → is_some options.tree.policy ≡ true
+      → Told (λ text. Lacks (served_tree order) text failure)
       → Told (λ text. MayFail order text out out file file failure)
   unset out file failure some lacks =
-      let policy_is : is_some order.policy ≡ true =
-      sym (ap (λ (o : TreeOrder). is_some o.policy) is) ∙ named run.policy ∙ some in (
-        lacks.0,
-        lacks.1,
-        inl (
-          policy_is,
-          subst (λ (o : TreeOrder). Lacks o lacks.0 failure) is lacks.2,
-          refl,
-          refl,
-        ),
-      )
+      (lacks.0, lacks.1, inl (named options.tree.policy ∙ some, lacks.2, refl, refl))
 
-  module _ (setup : Setup) (set : Told (λ text. IsSetup (tree_in run) text setup)) where
-    is_set : IsSetup (served_tree order) set.0 setup
-    is_set = subst (λ (o : TreeOrder). IsSetup o set.0 setup) is set.2
-
+  module _ (setup : Setup) (set : Told (λ text. IsSetup (served_tree order) text setup)) where
     pub unserved : (out out' file file' : Option (List ℕ)) (failure : Failure)
         → MayStop setup options.port out out' failure → file' ≡ file
         → Told (λ text. MayFail order text out out' file file' failure)
-    unserved out out' file file' failure stops same = (set.0, set.1, inr (inl (setup, is_set, stops, same)))
+    unserved out out' file file' failure stops same = (set.0, set.1, inr (inl (setup, set.2, stops, same)))
 
     module _ (out out' file file' : Option (List ℕ)) (told : Appends out out' (listening options.port)) where
       pub unsaved : {T : Type 0} (r : Result T Failure) → is_some options.save ≡ true → IfErr r IsOfSaving
@@ -80,7 +65,7 @@ module _ (options : ServeOptions) (run : TreeOptions) (is : tree_in run ≡ serv
           → IfErr r (λ failure. Told (λ text. MayFail order text out out' file file' failure))
       unsaved (Ok value) some saving same = tt
       unsaved (Err failure) some saving same =
-          (set.0, set.1, inr (inr (named options.save ∙ some, saving, setup, is_set, told, same)))
+          (set.0, set.1, inr (inr (named options.save ∙ some, saving, setup, set.2, told, same)))
 
       module _ (blank : Option (List ℕ)) (entries : List Entry) (served : IsServed setup entries) where
         pub done : is_some options.save ≡ false → file' ≡ file
@@ -91,7 +76,7 @@ module _ (options : ServeOptions) (run : TreeOptions) (is : tree_in run ≡ serv
           (
             setup,
             entries,
-            is_set,
+            set.2,
             served,
             told,
             subst (λ (f : Option (List ℕ)). IsSaved (bytes_of options.save) setup entries blank file f) (sym same)
@@ -108,7 +93,7 @@ module _ (options : ServeOptions) (run : TreeOptions) (is : tree_in run ≡ serv
           (
             setup,
             entries,
-            is_set,
+            set.2,
             served,
             told,
             is_saved setup entries options.save blank file file' h some header it,

@@ -57,10 +57,7 @@ pub fn calls_of(alloc: Global, words: &[&str]) -> Result<Vec<Call>, Failure>
 {
     let mut calls = Vec::new(alloc);
     for word in words {
-        let call = match call_of(alloc, word) {
-            Ok(call) => call,
-            Err(failure) => return Err(failure),
-        };
+        let call = call_of(alloc, word)?;
         if let Err(refused) = calls.push(call) {
             drop(refused);
             return Err(Failure::NoMemory);
@@ -133,10 +130,7 @@ pub fn told_of_setup(
         × IsCallWhy style setup.now.rules.abi s client call.now (string_bytes text)) }
     ensures failure { IfErr result (FailsSo (IsStopped setup.now)) }
 {
-    let opened = match open_tree(alloc, setup) {
-        Ok(opened) => opened,
-        Err(failure) => return Err(failure),
-    };
+    let opened = open_tree(alloc, setup)?;
     let Opened { mut tree, client } = opened;
     fits(setup.profile.as_slice());
     fits(before);

@@ -50,10 +50,7 @@ fn opened_by<R: Read>(
     ensures failure { IfErr result (λ failure. (text : List ℕ) × IfSome (R.remaining file.old) (λ told. text ≡ told)
         × ((words : List Text) → LacksRights words (tree_in tree.now) text failure)) }
 {
-    let setup = match setup_of(alloc, tree, file) {
-        Ok(setup) => setup,
-        Err(failure) => return Err(failure),
-    };
+    let setup = setup_of(alloc, tree, file)?;
     match open_tree(alloc, &setup) {
         Ok(opened) => Ok(OpenedSetup { setup, opened }),
         Err(failure) => Err(failure),
@@ -112,20 +109,11 @@ pub fn rights_difference<P: Read, R: Read>(
         × IfSome (P.remaining old_file.old) (λ text. was ≡ text) × IfSome (R.remaining file.old) (λ text. is ≡ text)
         × LacksDifference (rights_in options.now) compared.now.old.now compared.now.profile.now was is failure) }
 {
-    let paths = match paths_of(alloc, options.paths.as_slice()) {
-        Ok(paths) => paths,
-        Err(failure) => return Err(failure),
-    };
+    let paths = paths_of(alloc, options.paths.as_slice())?;
     let old_tree = TreeOptions::of_profile(compared.old, compared.profile, options.nodes);
-    let before = match opened_by(alloc, &old_tree, old_file) {
-        Ok(before) => before,
-        Err(failure) => return Err(failure),
-    };
+    let before = opened_by(alloc, &old_tree, old_file)?;
     let tree = TreeOptions::of_profile(options.policy, compared.profile, options.nodes);
-    let after = match opened_by(alloc, &tree, file) {
-        Ok(after) => after,
-        Err(failure) => return Err(failure),
-    };
+    let after = opened_by(alloc, &tree, file)?;
     let style = style_by(options.form);
     match differences_in(alloc, &before, &after, paths.as_slice(), style) {
         Ok(told) => Ok(told),
@@ -162,10 +150,7 @@ pub fn tell_difference<P: Read, R: Read, W: Write>(
         × TellsNoDifference (rights_in options.now) compared.now.old.now compared.now.profile.now was is
         (W.contents out.old) (W.contents out.new) failure) }
 {
-    let told = match rights_difference(alloc, options, compared, old_file, file) {
-        Ok(told) => told,
-        Err(failure) => return Err(failure),
-    };
+    let told = rights_difference(alloc, options, compared, old_file, file)?;
     match write_text(told.text.as_str(), out) {
         Ok(()) => Ok(concluded_by(told.found)),
         Err(failure) => Err(failure),

@@ -77,14 +77,8 @@ pub fn exported<R: Read>(
     if !options.fit() {
         return Err(Failure::CommandLine);
     }
-    let text = match read_text(alloc, file) {
-        Ok(text) => text,
-        Err(failure) => return Err(failure),
-    };
-    let policy = match policy_of(alloc, text.as_slice()) {
-        Ok(policy) => policy,
-        Err(failure) => return Err(failure),
-    };
+    let text = read_text(alloc, file)?;
+    let policy = policy_of(alloc, text.as_slice())?;
     let Some(layers) = policy.layers(options.profile) else {
         return Err(Failure::CommandLine);
     };
@@ -139,10 +133,7 @@ pub fn export<R: Read, W: Write>(
         × IsExport (exported_in options.now) text written
         × AppendsFront (W.contents out.old) (W.contents out.new) written }
 {
-    let text = match exported(alloc, options, file) {
-        Ok(text) => text,
-        Err(failure) => return Err(failure),
-    };
+    let text = exported(alloc, options, file)?;
     write_text(text.as_str(), out)
 }
 

@@ -1,6 +1,6 @@
 //! Serves all streams on one tree.
 
-ghost use Rattle.std.specs.Prelude.{◌≡◌, ◌≤◌, ◌+◌, ◌++◌, ℕ, List, [], IfErr, IfOk, OnOk, IfSome, length, map};
+ghost use Rattle.std.specs.Prelude.{◌≡◌, ◌≤◌, ◌+◌, ◌++◌, ℕ, List, IfErr, IfOk, OnOk, length, map};
 ghost use Rattle.std.specs.Io.KnownBytes.{Appends};
 ghost use Rattle.std.specs.List.{All};
 ghost use Rattle.ll_client.specs.Closed.{IsClosed};
@@ -22,38 +22,13 @@ use ll_calls::Tree;
 use ll_client::{Account, Blank, Client, Shape};
 use ll_program::{Failure, ServeOptions};
 use ll_seq::{Call, History};
-use ll_session::{Host, Keeps, Party, Served, Setup, gather, serve_on};
+use ll_session::{Host, Keeps, Served, Setup, Shared, gather, serve_on};
 use ll_walk::NoGate;
 use std::alloc::{AllocError, Global};
 use std::io::Write;
 use std::marker::Brand;
 use std::sync::Wait;
 use std::thread::Threads;
-
-// A new tree and a party without members. None if memory runs out.
-fn fresh<N: Shape>(
-    alloc: Global,
-    blank: Blank<Account>,
-    setup: &Setup,
-) -> Option<(Tree<N, NoGate>, Party<N>)>
-    requires named { blank ≡ N.table }
-    requires slots { N.slots ≡ setup.now.nodes + TREE_CLIENTS }
-    requires limit { N.limit ≡ setup.now.history }
-    requires rules { N.rules ≡ setup.now.rules }
-    ensures { IfSome result (λ made. made.1 ≡ []) }
-{
-    let tree = Tree::<N, NoGate>::open(
-        alloc,
-        blank,
-        setup.rules,
-        setup.nodes,
-        setup.history,
-        NoGate,
-    )
-    .ok()?;
-    let party = Party::<N>::new(alloc, setup.history as u64).ok()?;
-    Some((tree, party))
-}
 
 // Serves the streams of the door: as many workers, and as many streams, as the options ask for.
 fn serve_door<
@@ -102,7 +77,7 @@ fn serve_all<
     options: &ServeOptions,
     log: &Log<'_, H, E>,
 ) -> Result<History, Failure>
-    requires limit { N.limit ≡ options.now.history }
+    requires limit { N.limit ≡ options.now.tree.history }
     requires slots { TREE_CLIENTS ≤ N.slots }
     requires calls { AreOthers profile.now }
     ensures closed { IfOk result (λ history. (nodes : ℕ) → N.slots ≡ nodes + TREE_CLIENTS → (others : List Knows)
@@ -112,7 +87,7 @@ fn serve_all<
 {
     let host = Host {
         tree: &tree,
-        limit: options.history as u64,
+        limit: options.tree.history as u64,
         keeper,
         profile,
     };
@@ -151,16 +126,17 @@ fn host_in<
     requires slots { N.slots ≡ setup.nodes + TREE_CLIENTS }
     requires limit { N.limit ≡ setup.history }
     requires rules { N.rules ≡ setup.rules }
-    requires same { setup.history ≡ options.now.history }
+    requires same { setup.history ≡ options.now.tree.history }
     ensures served { IfOk result (λ history. IsServed setup history.entries) }
     ensures told { OnOk result (Appends (W.contents out.old) (W.contents out.new) (listening options.now.port)) }
     ensures entries { IfOk result (λ history. All IsEntry history.entries) }
     ensures failure { IfErr result
         (MayStop setup options.now.port (W.contents out.old) (W.contents out.new)) }
 {
-    let Some((tree, mut party)) = fresh::<N>(alloc, blank, &setup) else {
+    let Some(shared) = Shared::<N>::new(alloc, blank, &setup) else {
         return Err(Failure::NoMemory);
     };
+    let Shared { tree, mut party } = shared;
     let Setup {
         loader,
         profile,
@@ -200,7 +176,7 @@ pub(crate) fn host_on<
     out: &mut W,
     log: &Log<'_, H, E>,
 ) -> Result<History, Failure>
-    requires { setup.history ≡ options.now.history }
+    requires { setup.history ≡ options.now.tree.history }
     ensures served { IfOk result (λ history. IsServed setup history.entries) }
     ensures told { OnOk result (Appends (W.contents out.old) (W.contents out.new) (listening options.now.port)) }
     ensures entries { IfOk result (λ history. All IsEntry history.entries) }

@@ -26,10 +26,7 @@ fn learned_by(
     let Some(never) = options.withheld() else {
         return Err(Failure::CommandLine);
     };
-    let beneath = match paths_of(alloc, options.beneath.as_slice()) {
-        Ok(beneath) => beneath,
-        Err(failure) => return Err(failure),
-    };
+    let beneath = paths_of(alloc, options.beneath.as_slice())?;
     let lesson = SavedLesson {
         client: options.client,
         never,
@@ -60,10 +57,7 @@ pub fn learn_history<R: Read>(
     let Some(name) = options.profile_name() else {
         return Err(Failure::CommandLine);
     };
-    let bytes = match read_text(alloc, file) {
-        Ok(bytes) => bytes,
-        Err(failure) => return Err(failure),
-    };
+    let bytes = read_text(alloc, file)?;
     learned_by(alloc, options, name, bytes.as_slice())
 }
 

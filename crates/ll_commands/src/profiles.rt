@@ -72,10 +72,7 @@ fn push_table(
 {
     let style = style_among(options, profile);
     let mut file = policy;
-    let rows = match table_in(alloc, options, profile, style, &mut file) {
-        Ok(rows) => rows,
-        Err(failure) => return Err(failure),
-    };
+    let rows = table_in(alloc, options, profile, style, &mut file)?;
     match push_rows(text, style, profile, rows.as_str()) {
         Ok(()) => Ok(()),
         Err(_) => Err(Failure::NoMemory),
@@ -117,10 +114,7 @@ fn tables_by<N: ProfileNotes>(
     ensures tables { IfOk result (λ text. IsAllTables (rights_in options.now) policy.now (string_bytes text)) }
     ensures failure { IfErr result (LacksTables (rights_in options.now) policy.now) }
 {
-    let plan = match policy_of(alloc, policy) {
-        Ok(plan) => plan,
-        Err(failure) => return Err(failure),
-    };
+    let plan = policy_of(alloc, policy)?;
     match plan.names(alloc) {
         Ok(names) => tables_of(alloc, options, policy, names.as_slice(), notes),
         Err(_) => Err(Failure::NoMemory),
@@ -145,10 +139,7 @@ pub fn all_tables<R: Read, N: ProfileNotes>(
         Ok(paths) => drop(paths),
         Err(failure) => return Err(failure),
     }
-    let text = match read_text(alloc, file) {
-        Ok(text) => text,
-        Err(failure) => return Err(failure),
-    };
+    let text = read_text(alloc, file)?;
     tables_by(alloc, options, text.as_slice(), notes)
 }
 
@@ -166,9 +157,6 @@ pub fn tell_all_rights<R: Read, W: Write, N: ProfileNotes>(
     ensures failure { IfErr result (λ failure. (text : List ℕ) × IfSome (R.remaining file.old) (λ told. text ≡ told)
         × TellsNotAll (rights_in options.now) text (W.contents out.old) (W.contents out.new) failure) }
 {
-    let tables = match all_tables(alloc, options, file, notes) {
-        Ok(tables) => tables,
-        Err(failure) => return Err(failure),
-    };
+    let tables = all_tables(alloc, options, file, notes)?;
     write_text(tables.as_str(), out)
 }

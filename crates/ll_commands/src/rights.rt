@@ -67,22 +67,13 @@ pub(crate) fn table_in<R: Read>(
     ensures failure { IfErr result (λ failure. (text : List ℕ) × IfSome (R.remaining file.old) (λ told. text ≡ told)
         × LacksTable (rights_in options.now) profile.now text failure) }
 {
-    let paths = match paths_of(alloc, options.paths.as_slice()) {
-        Ok(paths) => paths,
-        Err(failure) => return Err(failure),
-    };
-    let setup = match setup_of(
+    let paths = paths_of(alloc, options.paths.as_slice())?;
+    let setup = setup_of(
         alloc,
         &TreeOptions::of_profile(options.policy, profile, options.nodes),
         file,
-    ) {
-        Ok(setup) => setup,
-        Err(failure) => return Err(failure),
-    };
-    let opened = match open_tree(alloc, &setup) {
-        Ok(opened) => opened,
-        Err(failure) => return Err(failure),
-    };
+    )?;
+    let opened = open_tree(alloc, &setup)?;
     match rows_told(alloc, &opened, &setup, paths.as_slice(), style) {
         Ok(text) => Ok(text),
         Err(_) => Err(Failure::NoMemory),
@@ -119,9 +110,6 @@ pub fn tell_rights<R: Read, W: Write>(
     ensures failure { IfErr result (λ failure. (text : List ℕ) × IfSome (R.remaining file.old) (λ told. text ≡ told)
         × MayFail (rights_in options.now) profile.now text (W.contents out.old) (W.contents out.new) failure) }
 {
-    let table = match rights_table(alloc, options, profile, file) {
-        Ok(table) => table,
-        Err(failure) => return Err(failure),
-    };
+    let table = rights_table(alloc, options, profile, file)?;
     write_text(table.as_str(), out)
 }

@@ -22,9 +22,8 @@ use ll_picture::{Film, Window};
 use ll_program::{Conclusion, Failure, ScheduleOptions, Stopped};
 use ll_rights::{Abi, Errno};
 use ll_seq::{Reply, Rules};
-use ll_session::reply_line;
 use ll_steps::{Halt, Report, ScheduleRun, Witness, WorldSetup, answer_text, run_schedule};
-use ll_wire::{Destination, Ends, Pair, write_out};
+use ll_wire::{Destination, Ends, Pair, reply_line, write_out};
 use std::alloc::{AllocError, Global};
 use std::io::{Read, Write, empty};
 
@@ -123,15 +122,7 @@ pub fn perform_schedule<R: Read, W: Write, V: Witness>(
         V.seen it.witness ≡ V.seen witness + lines_answered input it.halt)) }
     ensures goes { IfOk result (λ it. V.goes witness it.witness) }
 {
-    let mut ends = Pair {
-        reader: schedule,
-        writer: out,
-        reads: 0,
-        owed: 0,
-        is_answering: true,
-        is_input_broken: false,
-        is_output_broken: false,
-    };
+    let mut ends = Pair::new(schedule, out, true);
     perform_over(alloc, setup, is_strict, &mut ends, witness)
 }
 
@@ -237,15 +228,7 @@ pub fn draw_schedule<W: Write>(film: &Film, file: &mut W) -> Result<(), Failure>
     ensures failure { IfErr result IsOfSaving }
 {
     let mut nothing = empty();
-    let mut ends = Pair {
-        reader: &mut nothing,
-        writer: file,
-        reads: 0,
-        owed: 0,
-        is_answering: false,
-        is_input_broken: false,
-        is_output_broken: false,
-    };
+    let mut ends = Pair::new(&mut nothing, file, false);
     draw_over(film, &mut ends)
 }
 

@@ -31,7 +31,7 @@ fn host<H: Threads + Wait + Sync, B: Binds, D: Write + Drop + Send, W: Write, E:
     out: &mut W,
     log: &Log<'_, H, E>,
 ) -> Result<Recorded<D>, Failure>
-    requires { setup.history ≡ options.now.history }
+    requires { setup.history ≡ options.now.tree.history }
     ensures served { IfOk result (λ it. IsServed setup it.history.entries) }
     ensures told { OnOk result (Appends (W.contents out.old) (W.contents out.new) (listening options.now.port)) }
     ensures entries { IfOk result (λ it. All IsEntry it.history.entries) }
@@ -85,10 +85,7 @@ pub fn serve<
         × MayFail (served_in options.now) text (W.contents out.old) (W.contents out.new)
         (F.contents file.old) (F.contents file.new) failure) }
 {
-    let setup = match setup_of(alloc, &options.tree(), policy) {
-        Ok(setup) => setup,
-        Err(failure) => return Err(failure),
-    };
+    let setup = setup_of(alloc, &options.tree, policy)?;
     let record = begin_record(alloc, header_of(&setup), options.save, file);
     let header = header_of(&setup);
     let run = match host(rt, alloc, setup, options, net, record, out, log) {

@@ -49,10 +49,7 @@ fn answer_of_entry<R: Read>(
     ensures failure { IfErr result (λ failure. (text : List ℕ) × IfSome (R.remaining file.old) (λ told. text ≡ told)
         × EntryFails number text failure) }
 {
-    let bytes = match read_text(alloc, file) {
-        Ok(bytes) => bytes,
-        Err(failure) => return Err(failure),
-    };
+    let bytes = read_text(alloc, file)?;
     match why_entry(alloc, style, bytes.as_slice(), number as usize) {
         Ok(HistoryWhy::Told(text)) => Ok(Answer::Told(text)),
         Ok(HistoryWhy::BadLine(line)) => Ok(Answer::BadLine(line)),
@@ -75,10 +72,7 @@ fn answer_of_command<R: Read>(
     ensures failure { IfErr result (λ failure. (text : List ℕ) × IfSome (R.remaining file.old) (λ told. text ≡ told)
         × CommandFails (tree_in tree.now) (map (λ w. w.now) before.now) word.now text failure) }
 {
-    let calls = match calls_of(alloc, before) {
-        Ok(calls) => calls,
-        Err(failure) => return Err(failure),
-    };
+    let calls = calls_of(alloc, before)?;
     let call = match call_of(alloc, word) {
         Ok(call) => call,
         Err(failure) => {
@@ -166,10 +160,7 @@ pub fn tell_why<R: Read, W: Write>(
     ensures failure { IfErr result (λ failure. (text : List ℕ) × IfSome (R.remaining file.old) (λ told. text ≡ told)
         × MayFail (why_in options.now) text (W.contents out.old) (W.contents out.new) failure) }
 {
-    let answer = match answer_of(alloc, options, file) {
-        Ok(answer) => answer,
-        Err(failure) => return Err(failure),
-    };
+    let answer = answer_of(alloc, options, file)?;
     match write_answer(alloc, &answer, out) {
         Ok(()) => Ok(conclusion_of(&answer)),
         Err(failure) => Err(failure),

@@ -1,4 +1,5 @@
-use Rattle.std.proofs.Common.{◌≡◌, ◌∙◌, ◌+◌, ◌∷◌, [], List, ℕ, add-one, ap, arith, drop, drop-cons, get_or, sym}
+use Rattle.std.proofs.Common.{◌≡◌, ◌∙◌, ◌+◌, ◌∷◌, [], List, ℕ, add-one, ap, arith, drop, drop-cons, get_or, sym, Err}
+use Rattle.std.proofs.Common.{rules}
 use Rattle.std.specs.Borrow.{Bor}
 use Rattle.ll_commands.proofs.Spelled.{bad_here, bad_on, spell_all, spell_on}
 use Rattle.ll_commands.proofs.commands.calls_of.Goals as goal
@@ -6,16 +7,17 @@ use Rattle.ll_commands.proofs.commands.calls_of.Goals as goal
 none : Bor (List ℕ)
 none = record { ref_ptr = (0, 0); now = [] }
 
-pub returns-in-Err-clause-bad : goal.returns-in-Err-clause-bad
+pub returns-in_err-call-clause-bad : goal.returns-in_err-call-clause-bad
 unfolding none
-returns-in-Err-clause-bad c told =
-    let words = c.args.words.now in
+returns-in_err-call-clause-bad c =
+    let same : c.from_residual.result ≡ Err c.in_err-call.field-0.0 = search rules in
+    rw same (λ told. let words = c.args.words.now in
     let i = c.loop-word.word-index in
     let word = get_or words i none in
     let split : drop i words ≡ word ∷ drop (i + 1) words =
     drop-cons words i none c.loop-word-test.true ∙ ap (λ k. word ∷ drop k words) (sym (add-one i)) in
     bad_here words (drop i words) (drop (i + 1) words) word split c.loop-word.invariant.bad
-    (c.in-Err.ensures.bad told)
+    (c.in_err-call.ensures.bad told))
 
 pub loop-word-preserved : goal.loop-word-preserved
 unfolding none
@@ -27,7 +29,7 @@ loop-word-preserved c =
     drop-cons words i none c.loop-word-test.true ∙ ap (λ k. word ∷ drop k words) (sym (add-one i)) in
     record {
       spell = spell_on words (drop i words) (drop (i + 1) words) word c.loop-word.calls.items c.push.new.self.items
-          c.in-Ok.call split c.in-Ok.ensures.call c.in_default.ensures.items c.loop-word.invariant.spell;
+          c.in_ok-call.call split c.in_ok-call.ensures.call c.in_default.ensures.items c.loop-word.invariant.spell;
       bad = bad_on words (drop i words) (drop (i + 1) words) word split c.loop-word.invariant.bad;
     }
 

@@ -14,7 +14,7 @@ use Rattle.ll_commands.proofs.exporting.export.Goals as goal
 pub returns-clause-export : goal.returns-clause-export
 returns-clause-export g c =
     let order = exported_in c.args.options.now in
-    let is = c.in-Ok.ensures.export in
+    let is = c.in_ok-text.ensures.export in
     written (g.R.Read.remaining c.args.file.now) (g.W.Write.contents c.args.out.now)
     (g.W.Write.contents c.write_text.new.out) (IsExport order) is.0 c.as_str.result.now is.1
     (subst (IsExport order is.0) (sym c.as_str.ensures.value) is.2) c.write_text.result c.write_text.ensures.ok
@@ -39,7 +39,7 @@ returns-clause-nothing g c =
 pub returns-clause-broken : goal.returns-clause-broken
 returns-clause-broken g c failed =
     let order = exported_in c.args.options.now in
-    let is = c.in-Ok.ensures.export in
+    let is = c.in_ok-text.ensures.export in
     let out = g.W.Write.contents c.args.out.now in
     let out' = g.W.Write.contents c.write_text.new.out in
     let fails = subst (λ r. IfErr r (λ failure. (failure ≡ Output) × AppendsFront out out' c.as_str.result.now)) failed

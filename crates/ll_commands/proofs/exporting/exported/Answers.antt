@@ -1,4 +1,4 @@
-use Rattle.std.proofs.Common.{◌∙◌, inl, sym}
+use Rattle.std.proofs.Common.{◌∙◌, inl, sym, ◌≡◌, Err, rules}
 use Rattle.ll_program.specs.Options.{exported_in}
 use Rattle.ll_commands.specs.declared.confinement.Confinement.{Confinement}
 use Rattle.ll_commands.specs.Export.{IsOfPolicy}
@@ -15,36 +15,45 @@ returns-then-not-fit-clause-failure g c =
     let text = left (g.R.Read.remaining c.args.file.now) in
     (text.0, text.1, inl (sym c.fit.ensures ∙ c.if-not-fit.true))
 
-pub returns-in-Err-clause-failure : goal.returns-in-Err-clause-failure
-returns-in-Err-clause-failure g c =
-    let text = left (g.R.Read.remaining c.args.file.now) in
-    (text.0, text.1, by_reading (exported_in c.args.options.now) text.0 c.in-Err.failure c.in-Err.ensures.failure)
+pub returns-in_err-text-clause-failure : goal.returns-in_err-text-clause-failure
+returns-in_err-text-clause-failure g c =
+    let same : c.from_residual.result ≡ Err c.in_err-text.field-0.0 = search rules in
+    rw same (let text = left (g.R.Read.remaining c.args.file.now) in (
+      text.0,
+      text.1,
+      by_reading (exported_in c.args.options.now) text.0 c.in_err-text.field-0.0
+          c.in_err-text.ensures.failure,
+    ))
 
-pub returns-in-Err-policy_of-clause-failure : goal.returns-in-Err-policy_of-clause-failure
-returns-in-Err-policy_of-clause-failure g c = (
-  c.as_slice.result.now,
-  same_text (g.R.Read.remaining c.args.file.now) c.as_slice.result.now c.in-Ok.text.items c.as_slice.ensures.value
-      c.in-Ok.ensures.text,
-  by_policy (exported_in c.args.options.now) c.as_slice.result.now c.in-Err-policy_of.failure
-      c.in-Err-policy_of.ensures.failure c.in-Err-policy_of.ensures.alone,
-)
+pub returns-in_err-policy-clause-failure : goal.returns-in_err-policy-clause-failure
+returns-in_err-policy-clause-failure g c =
+    let same : c.from_residual-in_err-policy.result ≡ Err c.in_err-policy.field-0.0 = search rules in
+    rw same ((
+      c.as_slice.result.now,
+      same_text (g.R.Read.remaining c.args.file.now) c.as_slice.result.now c.in_ok-text.text.items
+          c.as_slice.ensures.value
+          c.in_ok-text.ensures.text,
+      by_policy (exported_in c.args.options.now) c.as_slice.result.now c.in_err-policy.field-0.0
+          c.in_err-policy.ensures.failure c.in_err-policy.ensures.alone,
+    ))
 
 pub returns-clause-failure : goal.returns-clause-failure
 returns-clause-failure g c =
     let it : Confinement =
     record { abi = c.abi.result; opening = c.as_slice-2.result; layers = c.in-Some-layers.layers } in
     let is : IsOfPolicy c.args.options.now.profile.now c.as_slice.result.now it = record {
-      plan = c.in-Ok-policy_of.policy;
-      utf8 = c.in-Ok-policy_of.ensures.utf8;
-      right = c.in-Ok-policy_of.ensures.right;
-      is = c.in-Ok-policy_of.ensures.plan;
+      plan = c.in_ok-policy.policy;
+      utf8 = c.in_ok-policy.ensures.utf8;
+      right = c.in_ok-policy.ensures.right;
+      is = c.in_ok-policy.ensures.plan;
       abi = c.abi.ensures;
-      opening = c.as_slice-2.ensures.value ∙ c.in-Ok-opening.ensures.calls;
+      opening = c.as_slice-2.ensures.value ∙ c.in-Ok.ensures.calls;
       calls = c.in-Some-layers.ensures;
     } in (
       c.as_slice.result.now,
-      same_text (g.R.Read.remaining c.args.file.now) c.as_slice.result.now c.in-Ok.text.items c.as_slice.ensures.value
-          c.in-Ok.ensures.text,
-      by_flaw (exported_in c.args.options.now) c.as_slice.result.now c.in-Err-checked_text.failure it is
-          c.in-Err-checked_text.ensures.failure,
+      same_text (g.R.Read.remaining c.args.file.now) c.as_slice.result.now c.in_ok-text.text.items
+          c.as_slice.ensures.value
+          c.in_ok-text.ensures.text,
+      by_flaw (exported_in c.args.options.now) c.as_slice.result.now c.in-Err.failure it is
+          c.in-Err.ensures.failure,
     )

@@ -1,4 +1,4 @@
-use Rattle.std.proofs.Common.{inl}
+use Rattle.std.proofs.Common.{inl, ◌≡◌, Err, rules}
 use Rattle.ll_program.specs.Learn.{profile_name}
 use Rattle.ll_program.specs.Options.{learn_in}
 use Rattle.ll_commands.proofs.Lessons.{by_file, nameless}
@@ -11,7 +11,8 @@ returns-in_default-clause-failure g c =
     let name = profile_name (learn_in c.args.options.now) in
     (t.0, t.1, inl (nameless c.profile_name.result name c.profile_name.ensures c.in_default.is))
 
-pub returns-in-Err-clause-failure : goal.returns-in-Err-clause-failure
-returns-in-Err-clause-failure g c =
-    let t = left (g.R.Read.remaining c.args.file.now) in
-    (t.0, t.1, by_file (learn_in c.args.options.now) t.0 c.in-Err.failure c.in-Err.ensures.failure)
+pub returns-in_err-bytes-clause-failure : goal.returns-in_err-bytes-clause-failure
+returns-in_err-bytes-clause-failure g c =
+    let same : c.from_residual.result ≡ Err c.in_err-bytes.field-0.0 = search rules in
+    rw same (let t = left (g.R.Read.remaining c.args.file.now) in
+    (t.0, t.1, by_file (learn_in c.args.options.now) t.0 c.in_err-bytes.field-0.0 c.in_err-bytes.ensures.failure))

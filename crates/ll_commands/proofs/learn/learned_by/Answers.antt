@@ -17,10 +17,10 @@ returns-clause-learned c =
       record {
         client = refl;
         never = c.in-Some.ensures;
-        beneath = c.as_slice-2.ensures.value ∙ c.in-Ok.ensures.paths
+        beneath = c.as_slice-2.ensures.value ∙ c.in_ok-beneath.ensures.paths
             ∙ ap (λ (words : List (Bor (List ℕ))). map path_of_text (map (λ w. w.now) words)) c.as_slice.ensures.value;
         most = c.most_rules.ensures.most;
         name = c.requires.name;
       },
-      c.in-Ok-learned.ensures,
+      c.in-Ok.ensures,
     )

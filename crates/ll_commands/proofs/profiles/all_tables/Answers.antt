@@ -1,4 +1,4 @@
-use Rattle.std.proofs.Common.{List, ℕ, inl, inr, map, subst}
+use Rattle.std.proofs.Common.{List, ℕ, inl, inr, map, subst, ◌≡◌, Err, rules}
 use Rattle.std.specs.Borrow.{Bor}
 use Rattle.std.proofs.lemmas.Result.{IfErr-weaker, IfOk-weaker}
 use Rattle.ll_program.specs.Paths.{HasBadWord}
@@ -18,20 +18,21 @@ returns-in-Err-clause-failure g c =
           (c.in-Err.ensures.bad e)),
     )
 
-pub returns-in-Err-read_text-clause-failure : goal.returns-in-Err-read_text-clause-failure
-returns-in-Err-read_text-clause-failure g c =
-    let t = left (g.R.Read.remaining c.args.file.now) in
-    (t.0, t.1, inr (inl (λ tree. unread tree t.0 c.in-Err-read_text.failure c.in-Err-read_text.ensures.failure)))
+pub returns-in_err-text-clause-failure : goal.returns-in_err-text-clause-failure
+returns-in_err-text-clause-failure g c =
+    let same : c.from_residual.result ≡ Err c.in_err-text.field-0.0 = search rules in
+    rw same (let t = left (g.R.Read.remaining c.args.file.now) in
+    (t.0, t.1, inr (inl (λ tree. unread tree t.0 c.in_err-text.field-0.0 c.in_err-text.ensures.failure))))
 
 pub returns-clause-tables : goal.returns-clause-tables
 returns-clause-tables g c =
-    let same = same_text (g.R.Read.remaining c.args.file.now) c.as_slice-2.result.now c.in-Ok-read_text.text.items
-    c.as_slice-2.ensures.value c.in-Ok-read_text.ensures.text in
+    let same = same_text (g.R.Read.remaining c.args.file.now) c.as_slice-2.result.now c.in_ok-text.text.items
+    c.as_slice-2.ensures.value c.in_ok-text.ensures.text in
     IfOk-weaker c.tables_by.result _ _ (λ tables are. (c.as_slice-2.result.now, same, are)) c.tables_by.ensures.tables
 
 pub returns-clause-failure : goal.returns-clause-failure
 returns-clause-failure g c =
-    let same = same_text (g.R.Read.remaining c.args.file.now) c.as_slice-2.result.now c.in-Ok-read_text.text.items
-    c.as_slice-2.ensures.value c.in-Ok-read_text.ensures.text in
+    let same = same_text (g.R.Read.remaining c.args.file.now) c.as_slice-2.result.now c.in_ok-text.text.items
+    c.as_slice-2.ensures.value c.in_ok-text.ensures.text in
     IfErr-weaker c.tables_by.result _ _ (λ failure lacks. (c.as_slice-2.result.now, same, lacks))
     c.tables_by.ensures.failure

@@ -1,32 +1,34 @@
-use Rattle.std.proofs.Common.{List, ℕ, ap, inl, inr, map, subst, ◌∙◌, string_bytes}
+use Rattle.std.proofs.Common.{List, ℕ, ap, inl, inr, map, subst, ◌∙◌, string_bytes, ◌≡◌, Err, rules}
 use Rattle.std.specs.Borrow.{Bor}
 use Rattle.std.proofs.lemmas.Result.{IfErr-weaker, IfOk-weaker}
 use Rattle.ll_program.specs.Rights.{rights_in}
 use Rattle.ll_commands.specs.Profiles.{AreTables, StopsAt}
 use Rattle.ll_commands.proofs.profiles.tables_by.Goals as goal
 
-pub returns-in-Err-clause-failure : goal.returns-in-Err-clause-failure
-returns-in-Err-clause-failure g c = inr (inl c.in-Err.ensures.failure)
+pub returns-in_err-plan-clause-failure : goal.returns-in_err-plan-clause-failure
+returns-in_err-plan-clause-failure g c =
+    let same : c.from_residual.result ≡ Err c.in_err-plan.field-0.0 = search rules in
+    rw same (inr (inl c.in_err-plan.ensures.failure))
 
-pub returns-in-Ok-names-clause-tables : goal.returns-in-Ok-names-clause-tables
-returns-in-Ok-names-clause-tables g c =
-    let names = ap (map (λ (p : Bor (List ℕ)). p.now)) c.as_slice.ensures.value ∙ c.in-Ok-names.ensures in
+pub returns-in-Ok-clause-tables : goal.returns-in-Ok-clause-tables
+returns-in-Ok-clause-tables g c =
+    let names = ap (map (λ (p : Bor (List ℕ)). p.now)) c.as_slice.ensures.value ∙ c.in-Ok.ensures in
     IfOk-weaker c.tables_of.result _ _ (λ text are. (
-      (c.in-Ok.ensures.utf8, c.in-Ok.ensures.right),
+      (c.in_ok-plan.ensures.utf8, c.in_ok-plan.ensures.right),
       (
-        c.in-Ok.plan,
-        c.in-Ok.ensures.plan,
+        c.in_ok-plan.plan,
+        c.in_ok-plan.ensures.plan,
         subst (λ (ps : List (List ℕ)). AreTables (rights_in c.args.options.now) c.args.policy.now ps
             (string_bytes text)) names are,
       ),
     )) c.tables_of.ensures.tables
 
-pub returns-in-Ok-names-clause-failure : goal.returns-in-Ok-names-clause-failure
-returns-in-Ok-names-clause-failure g c =
-    let names = ap (map (λ (p : Bor (List ℕ)). p.now)) c.as_slice.ensures.value ∙ c.in-Ok-names.ensures in
+pub returns-in-Ok-clause-failure : goal.returns-in-Ok-clause-failure
+returns-in-Ok-clause-failure g c =
+    let names = ap (map (λ (p : Bor (List ℕ)). p.now)) c.as_slice.ensures.value ∙ c.in-Ok.ensures in
     IfErr-weaker c.tables_of.result _ _ (λ failure stops. inr (inr (
-      c.in-Ok.plan,
-      c.in-Ok.ensures.plan,
+      c.in_ok-plan.plan,
+      c.in_ok-plan.ensures.plan,
       subst (λ (ps : List (List ℕ)). StopsAt (rights_in c.args.options.now) c.args.policy.now ps failure) names stops,
     ))) c.tables_of.ensures.failure
 

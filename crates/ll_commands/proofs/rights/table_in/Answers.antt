@@ -1,4 +1,4 @@
-use Rattle.std.proofs.Common.{List, ℕ, map, ap, subst, ◌∙◌, string_bytes}
+use Rattle.std.proofs.Common.{List, ℕ, map, ap, subst, ◌∙◌, string_bytes, ◌≡◌, Err, rules}
 use Rattle.std.specs.Borrow.{Bor}
 use Rattle.ll_path.specs.Path.{Path, path_of_text}
 use Rattle.ll_program.specs.Options.{TreeOrder, rights_in}
@@ -10,55 +10,59 @@ use Rattle.ll_why.specs.PathRows.{AreRows, paths_or_nodes}
 use Rattle.ll_commands.proofs.Rows.{by_opening, by_setup, by_words, left}
 use Rattle.ll_commands.proofs.rights.table_in.Goals as goal
 
-pub returns-in-Err-clause-failure : goal.returns-in-Err-clause-failure
-returns-in-Err-clause-failure g c =
-    let order = rights_in c.args.options.now in
+pub returns-in_err-paths-clause-failure : goal.returns-in_err-paths-clause-failure
+returns-in_err-paths-clause-failure g c =
+    let same : c.from_residual.result ≡ Err c.in_err-paths.field-0.0 = search rules in
+    rw same (let order = rights_in c.args.options.now in
     let t = left (g.R.Read.remaining c.args.file.now) in (
       t.0,
       t.1,
-      by_words order.paths (table_tree order c.args.profile.now) t.0 c.in-Err.failure c.in-Err.ensures.failure
+      by_words order.paths (table_tree order c.args.profile.now) t.0 c.in_err-paths.field-0.0
+          c.in_err-paths.ensures.failure
           (λ e. subst (λ (l : List (Bor (List ℕ))). HasBadWord (map (λ w. w.now) l)) c.as_slice.ensures.value
-          (c.in-Err.ensures.bad e)),
-    )
+          (c.in_err-paths.ensures.bad e)),
+    ))
 
-pub returns-in-Err-setup_of-clause-failure : goal.returns-in-Err-setup_of-clause-failure
-returns-in-Err-setup_of-clause-failure g c =
-    let order = rights_in c.args.options.now in
-    let l = c.in-Err-setup_of.ensures.failure in (
+pub returns-in_err-setup-clause-failure : goal.returns-in_err-setup-clause-failure
+returns-in_err-setup-clause-failure g c =
+    let same : c.from_residual-in_err-setup.result ≡ Err c.in_err-setup.field-0.0 = search rules in
+    rw same (let order = rights_in c.args.options.now in
+    let l = c.in_err-setup.ensures.failure in (
       l.0,
       l.1,
-      by_setup order.paths (table_tree order c.args.profile.now) l.0 c.in-Err-setup_of.failure
-          (subst (λ (o : TreeOrder). Lacks o l.0 c.in-Err-setup_of.failure) c.of_profile.ensures l.2),
-    )
+      by_setup order.paths (table_tree order c.args.profile.now) l.0 c.in_err-setup.field-0.0
+          (subst (λ (o : TreeOrder). Lacks o l.0 c.in_err-setup.field-0.0) c.of_profile.ensures l.2),
+    ))
 
-pub returns-in-Err-open_tree-clause-failure : goal.returns-in-Err-open_tree-clause-failure
-returns-in-Err-open_tree-clause-failure g c =
-    let order = rights_in c.args.options.now in
-    let s = c.in-Ok-setup_of.ensures.setup in (
+pub returns-in_err-opened-clause-failure : goal.returns-in_err-opened-clause-failure
+returns-in_err-opened-clause-failure g c =
+    let same : c.from_residual-in_err-opened.result ≡ Err c.in_err-opened.field-0.0 = search rules in
+    rw same (let order = rights_in c.args.options.now in
+    let s = c.in_ok-setup.ensures.setup in (
       s.0,
       s.1,
-      by_opening order.paths (table_tree order c.args.profile.now) s.0 c.in-Ok-setup_of.setup
-          c.in-Err-open_tree.failure
-          (subst (λ (o : TreeOrder). IsSetup o s.0 c.in-Ok-setup_of.setup) c.of_profile.ensures s.2)
-          c.in-Err-open_tree.ensures.failure,
-    )
+      by_opening order.paths (table_tree order c.args.profile.now) s.0 c.in_ok-setup.setup
+          c.in_err-opened.field-0.0
+          (subst (λ (o : TreeOrder). IsSetup o s.0 c.in_ok-setup.setup) c.of_profile.ensures s.2)
+          c.in_err-opened.ensures.failure,
+    ))
 
-pub returns-in-Ok-rows_told-clause-table : goal.returns-in-Ok-rows_told-clause-table
-returns-in-Ok-rows_told-clause-table g c =
-    let s = c.in-Ok-setup_of.ensures.setup in
-    let told = c.as_slice-2.ensures.value ∙ c.in-Ok.ensures.paths
+pub returns-in-Ok-clause-table : goal.returns-in-Ok-clause-table
+returns-in-Ok-clause-table g c =
+    let s = c.in_ok-setup.ensures.setup in
+    let told = c.as_slice-2.ensures.value ∙ c.in_ok-paths.ensures.paths
     ∙ ap (λ (l : List (Bor (List ℕ))). map path_of_text (map (λ w. w.now) l)) c.as_slice.ensures.value in (
       s.0,
       s.1,
       (
-        c.in-Ok-setup_of.setup,
-        c.in-Ok-open_tree.opened.client,
-        c.in-Ok-open_tree.opened.tree,
-        subst (λ (o : TreeOrder). IsSetup o s.0 c.in-Ok-setup_of.setup) c.of_profile.ensures s.2,
-        c.in-Ok-open_tree.ensures.ok,
-        subst (λ (ps : List Path). AreRows c.in-Ok-open_tree.opened.tree
-            (client_of c.in-Ok-open_tree.opened.tree c.in-Ok-open_tree.opened.client).domain c.args.style
-            (paths_or_nodes ps (loader_calls c.in-Ok-setup_of.setup)) (string_bytes c.in-Ok-rows_told.text)) told
-            c.in-Ok-rows_told.ensures,
+        c.in_ok-setup.setup,
+        c.in_ok-opened.opened.client,
+        c.in_ok-opened.opened.tree,
+        subst (λ (o : TreeOrder). IsSetup o s.0 c.in_ok-setup.setup) c.of_profile.ensures s.2,
+        c.in_ok-opened.ensures.ok,
+        subst (λ (ps : List Path). AreRows c.in_ok-opened.opened.tree
+            (client_of c.in_ok-opened.opened.tree c.in_ok-opened.opened.client).domain c.args.style
+            (paths_or_nodes ps (loader_calls c.in_ok-setup.setup)) (string_bytes c.in-Ok.text)) told
+            c.in-Ok.ensures,
       ),
     )
