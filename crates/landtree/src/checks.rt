@@ -176,14 +176,8 @@ fn check_texts<S: Sources + Wait, W: Write>(
         (IsCheck (checked_in given.now.options.now) given.now.policy.now policies (map source_of given.now.files.now))
         (W.contents out.old) (W.contents out.new) failure) }
 {
-    let paths = match policy_paths(rt.alloc(), given.files) {
-        Ok(paths) => paths,
-        Err(failure) => return Err(failure),
-    };
-    let policies = match policies_of(rt, sources, paths.as_slice(), hints) {
-        Ok(policies) => policies,
-        Err(failure) => return Err(failure),
-    };
+    let paths = policy_paths(rt.alloc(), given.files)?;
+    let policies = policies_of(rt, sources, paths.as_slice(), hints)?;
     let (options, policy, files) = (given.options, given.policy, given.files);
     let input = CheckInput {
         options,
@@ -244,14 +238,8 @@ fn check_files<S: Sources + Wait, W: Write>(
     ensures begun { IfErr result (BeginsCheck (S.texts sources.now) (checked_in options.now)
         (W.contents out.old) (W.contents out.new)) }
 {
-    let policy = match policy_text(rt, sources, options.policy, hints) {
-        Ok(policy) => policy,
-        Err(failure) => return Err(failure),
-    };
-    let files = match texts_of(rt, sources, options.files.as_slice(), hints) {
-        Ok(files) => files,
-        Err(failure) => return Err(failure),
-    };
+    let policy = policy_text(rt, sources, options.policy, hints)?;
+    let files = texts_of(rt, sources, options.files.as_slice(), hints)?;
     let input = CheckInput {
         options,
         policy: policy.as_slice(),
@@ -369,10 +357,7 @@ fn export_policy<S: Sources + Wait, W: Write>(
         → EndsChecked (S.texts sources.now) (exported_in options.now)
         (W.contents out.old) (W.contents out.new) result }
 {
-    let checked = match check_profile(rt, sources, options, policy, hints) {
-        Ok(checked) => checked,
-        Err(failure) => return Err(failure),
-    };
+    let checked = check_profile(rt, sources, options, policy, hints)?;
     let mut text = policy;
     export_checked(rt.alloc(), checked, options, &mut text, out)
 }
@@ -392,10 +377,7 @@ fn export_profile<S: Sources + Wait, W: Write>(
     ensures checked { EndsChecked (S.texts sources.now) (exported_in options.now)
         (W.contents out.old) (W.contents out.new) result }
 {
-    let policy = match text_of(rt, sources, "policy", Some(options.policy), hints) {
-        Ok(policy) => policy,
-        Err(failure) => return Err(failure),
-    };
+    let policy = text_of(rt, sources, "policy", Some(options.policy), hints)?;
     let ended = export_policy(rt, sources, options, policy.as_slice(), out, hints);
     if let Err(failure) = &ended {
         hints.of_export(options, failure, Some(policy.as_slice()));

@@ -86,7 +86,7 @@ fn run_script<S: Sources + Wait, W: Write>(
     let mut policy = Late::keeping(
         rt.alloc(),
         sources,
-        Some(options.policy.unwrap_or("")),
+        Some(options.tree.policy.unwrap_or("")),
         keeps,
     );
     let mut script = Late::keeping(rt.alloc(), sources, named(options.script), keeps);
@@ -131,7 +131,7 @@ pub fn run_options<S: Sources + Wait, W: Write>(
         what: "script",
         device: Device::input(named(options.script)),
     };
-    let used = [Some(script), policy_of(options.policy), Some(OUTPUT)];
+    let used = [Some(script), policy_of(options.tree.policy), Some(OUTPUT)];
     if let Some(clash) = Clash::find(rt, "history", options.save, &used) {
         hints.add(&clash);
         return Err(Failure::File);
@@ -372,7 +372,7 @@ fn serve_port<S: Sources + Threads + Wait + Sync, B: Binds, W: Write>(
     let mut policy = Late::keeping(
         rt.alloc(),
         sources,
-        Some(options.policy.unwrap_or("")),
+        Some(options.tree.policy.unwrap_or("")),
         keeps,
     );
     let is_telling = options.log || keeps;
@@ -411,7 +411,7 @@ pub fn serve_options<S: Sources + Threads + Wait + Sync, B: Binds, W: Write>(
         hints.of_misfit(Misfit::of_serve(options));
         return Err(Failure::CommandLine);
     }
-    let used = [policy_of(options.policy), Some(OUTPUT)];
+    let used = [policy_of(options.tree.policy), Some(OUTPUT)];
     if let Some(clash) = Clash::find(rt, "history", options.save, &used) {
         hints.add(&clash);
         return Err(Failure::File);

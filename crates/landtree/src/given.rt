@@ -1,6 +1,7 @@
 //! Policies, as commands have read them.
 
 use ll_check::FaultyPolicy;
+use ll_program::TreeOptions;
 
 /// A policy that a command has read, and the profile asked for, if one is.
 #[derive(Clone, Copy)]
@@ -23,6 +24,11 @@ impl<'a> Given<'a> {
             text: text?,
             profile,
         })
+    }
+
+    /// Returns the policy that a tree's options name, if they name one and its text is kept.
+    pub fn of_tree(tree: &TreeOptions<'a>, text: Option<&'a [u8]>) -> Option<Given<'a>> {
+        Given::new(tree.policy, text, tree.profile)
     }
 
     /// Returns a section's own policy.

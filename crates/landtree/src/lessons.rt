@@ -79,10 +79,7 @@ fn learn_from<R: Read, W: Write, E: Write>(
     ensures { (text : List ℕ) × IfSome (R.remaining file.old) (λ told. text ≡ told)
         × IsLearning (learn_in options.now) text (W.contents out.old) (W.contents out.new) result }
 {
-    let learned = match learn_history(alloc, options, file) {
-        Ok(learned) => learned,
-        Err(failure) => return Err(failure),
-    };
+    let learned = learn_history(alloc, options, file)?;
     tell_learned(alloc, options, name, &learned, out, err)
 }
 
@@ -101,14 +98,8 @@ fn learn_checks<S: Sources + Wait, W: Write>(
         hints.of_misfit(Some(Misfit::ControlCharacter));
         return Err(Failure::CommandLine);
     }
-    let policy = match policy_text(rt, sources, options.policy, hints) {
-        Ok(policy) => policy,
-        Err(failure) => return Err(failure),
-    };
-    let files = match texts_of(rt, sources, options.files.as_slice(), hints) {
-        Ok(files) => files,
-        Err(failure) => return Err(failure),
-    };
+    let policy = policy_text(rt, sources, options.policy, hints)?;
+    let files = texts_of(rt, sources, options.files.as_slice(), hints)?;
     let input = LearnInput {
         options,
         policy: policy.as_slice(),

@@ -167,10 +167,10 @@ fn is_path(alloc: Global, word: &str) -> bool {
 impl<'a> Misfit<'a> {
     /// Returns the misfit in the words of `run`.
     pub fn of_run(options: &RunOptions<'a>) -> Option<Misfit<'a>> {
-        let (save, script, policy) = (options.save, options.script, options.policy);
-        of_setup(options.level.is_some(), policy, options.profile)
+        let (save, script, tree) = (options.save, options.script, &options.tree);
+        of_setup(tree.level.is_some(), tree.policy, tree.profile)
             .or(of_output(save, Some(script)))
-            .or(of_output(save, policy))
+            .or(of_output(save, tree.policy))
     }
 
     /// Returns the misfit in the words of `schedule`.
@@ -199,9 +199,10 @@ impl<'a> Misfit<'a> {
 
     /// Returns the misfit in the words of `serve`.
     pub fn of_serve(options: &ServeOptions<'a>) -> Option<Misfit<'a>> {
-        of_setup(options.level.is_some(), options.policy, options.profile).or(of_output(
+        let tree = &options.tree;
+        of_setup(tree.level.is_some(), tree.policy, tree.profile).or(of_output(
             options.save,
-            options.policy,
+            tree.policy,
         ))
     }
 

@@ -43,7 +43,7 @@ impl Hints {
                 _ => self.of_bad_lines(of, options.script, text),
             }
         }
-        let Some(given) = Given::new(options.policy, policy.text(), options.profile) else {
+        let Some(given) = Given::of_tree(&options.tree, policy.text()) else {
             return;
         };
         match ended {
@@ -81,7 +81,7 @@ impl Hints {
         refusal: Option<&Refusal>,
         policy: &Late<'_, S>,
     ) {
-        let Some(given) = Given::new(options.policy, policy.text(), options.profile) else {
+        let Some(given) = Given::of_tree(&options.tree, policy.text()) else {
             return;
         };
         match ended {

@@ -195,14 +195,8 @@ impl<'a> CheckGiven<'a> {
         ensures told { IfOk result (λ answer. IsCheckTold (asked_in self.now) answer.status answer.text.items) }
         ensures fault { IfErr result (MayFailCheck (asked_in self.now)) }
     {
-        let options = match self.options(alloc) {
-            Ok(options) => options,
-            Err(fault) => return Err(fault),
-        };
-        let file = match self.file(alloc) {
-            Ok(file) => file,
-            Err(fault) => return Err(fault),
-        };
+        let options = self.options(alloc)?;
+        let file = self.file(alloc)?;
         let input = CheckInput {
             options: &options,
             policy: self.policy,

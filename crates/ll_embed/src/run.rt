@@ -43,10 +43,7 @@ fn run(alloc: Global, given: &Given<'_>, is_strict: bool) -> Result<TextRun, Fau
     ensures entries { IfOk result (λ ran. All IsEntry ran.run.history.entries) }
     ensures fault { IfErr result (MayFail (order_in given.now)) }
 {
-    let setup = match given.setup(alloc) {
-        Ok(setup) => setup,
-        Err(fault) => return Err(fault),
-    };
+    let setup = given.setup(alloc)?;
     match run_alone(alloc, setup, is_strict, given.script) {
         Ok(ran) => Ok(ran),
         Err(fault) => Err(fault_of(fault)),

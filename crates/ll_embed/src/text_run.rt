@@ -19,8 +19,8 @@ ghost use Rattle.ll_session.specs.declared.score.Score.{Score};
 
 use crate::own_tree::OwnTree;
 use ll_seq::Reply;
-use ll_session::{Run, RunFault, Score, Setup, are_entries, reply_line, write_reply};
-use ll_wire::{Answers, Ends, Line, Pair, SessionFault, answer_lines};
+use ll_session::{Run, RunFault, Score, Setup, are_entries, write_reply};
+use ll_wire::{Answers, Ends, Line, Pair, SessionFault, answer_lines, reply_line};
 use std::alloc::{AllocError, Global};
 use std::io::{Read, Write};
 
@@ -175,15 +175,7 @@ fn run_through<R: Read, W: Write>(
     ensures long { result ≡ Err (RunFault.Session SessionFault.TooLong)
         → (input : List ℕ) → R.remaining reader.old ≡ Some input → most_reads ≤ length input }
 {
-    let mut ends = Pair {
-        reader,
-        writer,
-        reads: 0,
-        owed: 0,
-        is_answering: true,
-        is_input_broken: false,
-        is_output_broken: false,
-    };
+    let mut ends = Pair::new(reader, writer, true);
     match run_over(alloc, setup, is_strict, &mut ends) {
         Ok(run) => Ok(run),
         Err(fault) => Err(fault),

@@ -16,7 +16,7 @@ returns-in-Ok g c =
     subst (λ (r : Result Ran Failure). EndsRun texts order out out' (ended_by r)) c.in-Ok.is
     (ends_run texts order c.run_over-ended.result _ _ out out'
     (c.keeping-script.ensures.left ∙ ap texts c.named.ensures)
-    (λ text. policy_text texts c.args.options.now.policy c.unwrap_or.result _ _ text c.unwrap_or.ensures
+    (λ text. policy_text texts c.args.options.now.tree.policy c.unwrap_or.result _ _ text c.unwrap_or.ensures
     c.keeping-policy.ensures.left) c.run_over-ended.ensures.done c.run_over-ended.ensures.failure)
 
 pub returns : goal.returns
@@ -28,5 +28,5 @@ returns g c =
     subst (λ (r : Result Ran Failure). EndsRun texts order out out' (ended_by r)) c.in-Err.is
     (ends_run texts order c.run_over-ended.result _ _ out out'
     (c.keeping-script.ensures.left ∙ ap texts c.named.ensures)
-    (λ text. policy_text texts c.args.options.now.policy c.unwrap_or.result _ _ text c.unwrap_or.ensures
+    (λ text. policy_text texts c.args.options.now.tree.policy c.unwrap_or.result _ _ text c.unwrap_or.ensures
     c.keeping-policy.ensures.left) c.run_over-ended.ensures.done c.run_over-ended.ensures.failure)

@@ -32,13 +32,15 @@ fails_somewhere (Err failure) order left told out out' file file' same fails =
 pub returns-clause-done : goal.returns-clause-done
 returns-clause-done g c =
     done_somewhere c.serve-ended.result (served_in c.args.options.now) _ _ _ _ _ _ _
-    (λ text. policy_text (g.S.Sources.texts c.args.sources.now) c.args.options.now.policy c.unwrap_or.result _ _ text
+    (λ text. policy_text (g.S.Sources.texts c.args.sources.now) c.args.options.now.tree.policy c.unwrap_or.result _ _
+    text
     c.unwrap_or.ensures c.keeping-policy.ensures.left)
     c.serve-ended.ensures.done
 
 pub returns-clause-failure : goal.returns-clause-failure
 returns-clause-failure g c =
     fails_somewhere c.serve-ended.result (served_in c.args.options.now) _ _ _ _ _ _
-    (λ text. policy_text (g.S.Sources.texts c.args.sources.now) c.args.options.now.policy c.unwrap_or.result _ _ text
+    (λ text. policy_text (g.S.Sources.texts c.args.sources.now) c.args.options.now.tree.policy c.unwrap_or.result _ _
+    text
     c.unwrap_or.ensures c.keeping-policy.ensures.left)
     c.serve-ended.ensures.failure

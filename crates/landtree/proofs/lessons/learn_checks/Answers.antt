@@ -11,17 +11,17 @@ returns-then-not-are_lines g c =
     let lines = ap (list_all (λ (name : Bor (List ℕ)). list_all is_of_line name.now)) (sym c.as_slice.ensures.value) in
     inl (refl, inl (refl, lines_told c.args.options.now.files.items ∙ lines ∙ sym c.if-not-are_lines.ensures))
 
-pub returns-in-Ok-ended : goal.returns-in-Ok-ended
-returns-in-Ok-ended g c =
+pub returns-in-Ok : goal.returns-in-Ok
+returns-in-Ok g c =
     let texts = g.S.Sources.texts c.args.sources.now in
     let order = learn_in c.args.options.now in
     let lines = ap (list_all (λ (name : Bor (List ℕ)). list_all is_of_line name.now)) (sym c.as_slice.ensures.value) in
     rw c.ended_by.ensures (subst (λ e. EndsByChecks texts order (g.W.Write.contents c.args.out.now)
-    (g.W.Write.contents c.learn_over-ended.new.out) (concluded e)) c.in-Ok-ended.is
-    (by_checks texts order c.as_slice-2.result.now c.in-Ok.policy.items c.as_slice-3.result.now
-    c.in-Ok-texts_of.files.items c.as_slice-4.result.now c.learn_over-ended.result
+    (g.W.Write.contents c.learn_over-ended.new.out) (concluded e)) c.in-Ok.is
+    (by_checks texts order c.as_slice-2.result.now c.in_ok-policy.policy.items c.as_slice-3.result.now
+    c.in_ok-files.files.items c.as_slice-4.result.now c.learn_over-ended.result
     (ap (map (λ (n : Bor (List ℕ)). n.now)) c.as_slice-2.ensures.value) c.as_slice-3.ensures.value
-    c.as_slice-4.ensures.value c.in-Ok.ensures.text c.in-Ok-texts_of.ensures.sources _ _ c.learn_over-ended.ensures
+    c.as_slice-4.ensures.value c.in_ok-policy.ensures.text c.in_ok-files.ensures.sources _ _ c.learn_over-ended.ensures
     (lines_told c.args.options.now.files.items ∙ lines ∙ sym c.if-not-are_lines.ensures)))
 
 pub returns : goal.returns
@@ -30,9 +30,9 @@ returns g c =
     let order = learn_in c.args.options.now in
     let lines = ap (list_all (λ (name : Bor (List ℕ)). list_all is_of_line name.now)) (sym c.as_slice.ensures.value) in
     subst (λ e. EndsByChecks texts order (g.W.Write.contents c.args.out.now)
-    (g.W.Write.contents c.learn_over-ended.new.out) (concluded e)) c.in-Err-ended.is
-    (by_checks texts order c.as_slice-2.result.now c.in-Ok.policy.items c.as_slice-3.result.now
-    c.in-Ok-texts_of.files.items c.as_slice-4.result.now c.learn_over-ended.result
+    (g.W.Write.contents c.learn_over-ended.new.out) (concluded e)) c.in-Err.is
+    (by_checks texts order c.as_slice-2.result.now c.in_ok-policy.policy.items c.as_slice-3.result.now
+    c.in_ok-files.files.items c.as_slice-4.result.now c.learn_over-ended.result
     (ap (map (λ (n : Bor (List ℕ)). n.now)) c.as_slice-2.ensures.value) c.as_slice-3.ensures.value
-    c.as_slice-4.ensures.value c.in-Ok.ensures.text c.in-Ok-texts_of.ensures.sources _ _ c.learn_over-ended.ensures
+    c.as_slice-4.ensures.value c.in_ok-policy.ensures.text c.in_ok-files.ensures.sources _ _ c.learn_over-ended.ensures
     (lines_told c.args.options.now.files.items ∙ lines ∙ sym c.if-not-are_lines.ensures))

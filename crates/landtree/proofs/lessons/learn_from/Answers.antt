@@ -1,12 +1,14 @@
+use Rattle.std.proofs.Common.{◌≡◌, Err, rules}
 use Rattle.ll_program.specs.Options.{learn_in}
 use Rattle.landtree.proofs.Taught.{lacking}
 use Rattle.landtree.proofs.lessons.learn_from.Goals as goal
 
-pub returns-in-Err : goal.returns-in-Err
-returns-in-Err g c =
-    let lacks = c.in-Err.ensures.failure in
-    (lacks.0, lacks.1, lacking (learn_in c.args.options.now) lacks.0 c.in-Err.failure lacks.2 _)
+pub returns-in_err-learned : goal.returns-in_err-learned
+returns-in_err-learned g c =
+    let same : c.from_residual.result ≡ Err c.in_err-learned.field-0.0 = search rules in
+    rw same (let lacks = c.in_err-learned.ensures.failure in
+    (lacks.0, lacks.1, lacking (learn_in c.args.options.now) lacks.0 c.in_err-learned.field-0.0 lacks.2 _))
 
 pub returns : goal.returns
 returns g c =
-    let is = c.in-Ok.ensures.learned in (is.0, is.1, c.tell_learned.ensures is.0 is.2)
+    let is = c.in_ok-learned.ensures.learned in (is.0, is.1, c.tell_learned.ensures is.0 is.2)
