@@ -14,7 +14,7 @@ from .errors import Fault, LandtreeError, ProgramFault
 from .lint import lint
 from .tour import Tour, TourOptions, need_program, tour
 from .trace import convert, record
-from .trace.converting import names_beside
+from .trace.conversion import names_beside
 from .values import Rights
 
 FOUND, USAGE = 3, 2

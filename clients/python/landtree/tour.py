@@ -20,10 +20,10 @@ from .commands import Commands, Learned, LearnOptions
 from .confine import own_environment
 from .errors import Fault, ProgramFault
 from .names import encoded
-from .trace.converting import Converted, convert
+from .trace.conversion import Converted, convert
 from .trace.files import write_all
 from .trace.log import Call, calls, descriptor_of, string_of
-from .trace.reading import TRACED
+from .trace.reader import TRACED
 from .trace.recording import Recording, need_strace, record, status_of, strace_words
 from .values import Rights
 

@@ -1,6 +1,6 @@
 """What calls that make, remove, move and link ask for, by docs/MODEL.md ("The calls")."""
 
-from tests.tracing import Tracing
+from tests.traces import Tracing
 
 MISSING = "-1 ENOENT (No such file or directory)"
 

@@ -1,6 +1,6 @@
 """What openings ask for, by docs/MODEL.md ("The calls") and landlock.rst."""
 
-from tests.tracing import Tracing
+from tests.traces import Tracing
 
 CWD = "AT_FDCWD</w>"
 

@@ -2,11 +2,11 @@
 
 import os
 
-from tests.tracing import Tracing
+from tests.traces import Tracing
 
 from landtree.trace.inventory import Entry, Inventory
 from landtree.trace.loaders import USUAL_LOADER, elf_loader, interpreter_of
-from landtree.trace.reading import read
+from landtree.trace.reader import read
 
 
 class Executing(Tracing):

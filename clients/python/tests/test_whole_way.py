@@ -19,7 +19,7 @@ from tests.support import LONGEST, PACKAGE, PROGRAM, Case, needs, needs_landlock
 from landtree import Commands, read_policy
 from landtree.tour import ENFORCED, ENTRY, denied_of, refused
 from landtree.trace import convert
-from landtree.trace.reading import TRACED
+from landtree.trace.reader import TRACED
 from landtree.trace.recording import strace_words
 from landtree.values import SINGLE_RIGHTS
 

@@ -9,8 +9,8 @@ use Rattle.ll_program.specs.declared.conclusion.Conclusion.{Conclusion}
 use Rattle.ll_program.specs.declared.failure.Failure.{Failure}
 use Rattle.ll_program.specs.declared.failure.Failure.TheVariants.{File}
 use Rattle.ll_program.specs.declared.program.Ran.{Ran}
-use Rattle.ll_commands.specs.Serving as serving
-use Rattle.ll_commands.specs.Serving.{EndsServe, IsDone}
+use Rattle.ll_commands.specs.Service as serving
+use Rattle.ll_commands.specs.Service.{EndsServe, IsDone}
 use Rattle.landtree.proofs.TextsTold.{ended}
 
 -- What is read of the policy's file is its text, if one is named

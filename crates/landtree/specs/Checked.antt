@@ -12,7 +12,7 @@ use Rattle.ll_program.specs.declared.failure.Failure.TheVariants.{Output}
 use Rattle.ll_check.specs.Ends.{IsCheckedUnder, IsPolicyText}
 use Rattle.ll_commands.specs.Export.{IsExport}
 use Rattle.ll_wire.specs.Transcript.{Writes}
-use Rattle.ll_wire.specs.Writing.{AppendsFront}
+use Rattle.ll_wire.specs.WriterGains.{AppendsFront}
 
 -- the check of the files that the words name, by the policy and under the exported profile
 abbrev pub check_of : ExportOrder → CheckOrder

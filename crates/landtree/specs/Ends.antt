@@ -13,7 +13,7 @@ use Rattle.ll_program.specs.Sources.{named}
 use Rattle.ll_check.specs.Ends.{EndsCheck}
 use Rattle.ll_commands.specs.RightsEnd.{EndsRights}
 use Rattle.ll_commands.specs.Schedules.{EndsSchedule}
-use Rattle.ll_commands.specs.Serving.{EndsServe}
+use Rattle.ll_commands.specs.Service.{EndsServe}
 use Rattle.ll_commands.specs.Why.{EndsWhy}
 use Rattle.landtree.specs.Checked.{EndsChecked, WritesExport}
 use Rattle.landtree.specs.Learned.{EndsLearned}

@@ -10,8 +10,8 @@ ghost use Rattle.ll_program.specs.Failure.{EndsAudit, FailsAudit};
 ghost use Rattle.ll_program.specs.Policy.{EndsRun, IsRun, MayFail};
 ghost use Rattle.ll_commands.specs.Why.{EndsWhy, file_asked};
 ghost use Rattle.ll_commands.specs.Schedules.{EndsSchedule};
-ghost use Rattle.ll_commands.specs.Serving as serving;
-ghost use Rattle.ll_commands.specs.Serving.{EndsServe, IsDone};
+ghost use Rattle.ll_commands.specs.Service as serving;
+ghost use Rattle.ll_commands.specs.Service.{EndsServe, IsDone};
 ghost use Rattle.ll_audit.specs.Saved.{Judges, verdict_line};
 ghost use Rattle.ll_wire.specs.Pieces.{pieces};
 

@@ -3,7 +3,7 @@ use Rattle.std.proofs.Common.{◌≡◌, ℕ, List, ◌++◌, sym, subst}
 use Rattle.ll_laws.specs.NoGain.{GainsNothing}
 use Rattle.ll_laws.specs.Withheld.{Withholds}
 use Rattle.ll_laws.proofs.Gain.{no_gain}
-use Rattle.ll_laws.proofs.Withholding.{bytes_are_withheld}
+use Rattle.ll_laws.proofs.WithheldBytes.{bytes_are_withheld}
 use Rattle.ll_seq.specs.declared.reply.Entry.{Entry}
 use Rattle.ll_seq.specs.declared.rules.Rules.{Rules}
 use Rattle.ll_seq.specs.History.{IsLegal}

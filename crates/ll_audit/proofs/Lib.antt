@@ -1,7 +1,7 @@
 pub mod EntriesThatStand
+pub mod EntryLines
 pub mod FileRead
 pub mod FollowedParts
 pub mod Follows
 pub mod Judged
 pub mod SavedText
-pub mod Telling

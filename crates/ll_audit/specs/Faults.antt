@@ -1,10 +1,10 @@
 -- Which device failed when a history's file can't be read or written. own
 use Rattle.std.specs.Prelude.{◌≡◌, ℕ, ◌+◌, ◌^◌, ◌≤◌, true, false}
 use Rattle.ll_wire.specs.Devices.{Devices, IsWhole}
-use Rattle.ll_audit.specs.declared.auditing.FileAuditFault.{FileAuditFault}
-use Rattle.ll_audit.specs.declared.auditing.FileAuditFault.TheVariants as audit
-use Rattle.ll_audit.specs.declared.saving.SaveFault.{SaveFault}
-use Rattle.ll_audit.specs.declared.saving.SaveFault.TheVariants as saves
+use Rattle.ll_audit.specs.declared.file_audit.FileAuditFault.{FileAuditFault}
+use Rattle.ll_audit.specs.declared.file_audit.FileAuditFault.TheVariants as audit
+use Rattle.ll_audit.specs.declared.archive.SaveFault.{SaveFault}
+use Rattle.ll_audit.specs.declared.archive.SaveFault.TheVariants as saves
 
 -- the devices after a call that failed like this, and that was given whole ones
 abbrev pub BlamesAudit : FileAuditFault → Devices → Type 0

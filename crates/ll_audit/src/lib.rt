@@ -1,14 +1,14 @@
 //! Audits: checks that the entries of a history are calls of one tree, made one after the other, each with its reply.
 #![tactic(auto)]
 
-mod auditing;
+mod archive;
 mod entry;
 mod fault;
-mod following;
-mod judging;
+mod file_audit;
+mod judgement;
+mod parts;
 mod progress;
-mod reading;
-mod saving;
+mod saved;
 mod verdict;
 
 ghost use Rattle.std.specs.Prelude.{◌≡◌, ◌<◌, ◌≤◌, ◌+◌, ◌^◌, ◌++◌, ℕ, List, length, OnOk, IfErr};
@@ -67,9 +67,9 @@ pub fn audit(alloc: Global, rules: Rules, nodes: usize, history: &History) -> Re
     follow(&mut tree, history.entries())
 }
 
-pub use auditing::{FileAuditFault, run_audit, run_audit_over};
-pub use judging::judge;
+pub use archive::{SaveFault, record_in, save, save_in, save_over};
+pub use file_audit::{FileAuditFault, run_audit, run_audit_over};
+pub use judgement::judge;
 pub use progress::{Progress, Untold};
-pub use reading::{ReadFault, Saved};
-pub use saving::{SaveFault, record_in, save, save_in, save_over};
+pub use saved::{ReadFault, Saved};
 pub use verdict::Verdict;

@@ -1,2 +1,2 @@
-pub mod Typing
+pub mod AnswerTypes
 pub mod Successes

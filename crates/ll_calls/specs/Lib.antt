@@ -1,2 +1,2 @@
 pub mod Typed
-pub mod Opening
+pub mod TreeLimits

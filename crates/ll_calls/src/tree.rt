@@ -9,11 +9,11 @@ ghost use Rattle.ll_seq.specs.History.{IsLegal, is_connect};
 ghost use Rattle.ll_seq.specs.State.{start};
 ghost use Rattle.ll_seq.specs.declared.reply.Entry.{Entry};
 ghost use Rattle.ll_client.specs.Closed.{IsClosed};
-ghost use Rattle.ll_client.specs.Coming.{HasNoPlace, childless, knows_full};
+ghost use Rattle.ll_client.specs.CallStart.{HasNoPlace, childless, knows_full};
 ghost use Rattle.ll_client.specs.Entries.{knows, numbered};
 ghost use Rattle.ll_client.specs.Gains.{Gains, Told};
 ghost use Rattle.ll_client.specs.Replies.{success};
-ghost use Rattle.ll_calls.specs.Opening.{MayOpen};
+ghost use Rattle.ll_calls.specs.TreeLimits.{MayOpen};
 ghost use Rattle.ll_calls.specs.Typed.{FitsMade};
 
 use ll_client::{Account, Blank, Client, ReadsHistory, Shape};
@@ -144,7 +144,7 @@ impl<N: Shape, G: Gate<N>> Tree<N, G> {
     }
 
     /// Makes the client's call and returns its result. Not for connect and spawn, which have functions of their own.
-    #[tactic(auto, using(crate::proofs::Typing::gains_fit))]
+    #[tactic(auto, using(crate::proofs::AnswerTypes::gains_fit))]
     pub fn call<R: Wait>(&self, rt: &R, me: &mut Client<N>, call: Call) -> Made
         requires other { is_connect call ≡ false }
         // Not a spawn, which would succeed with a child.

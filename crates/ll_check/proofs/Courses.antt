@@ -31,7 +31,7 @@ use Rattle.ll_program.specs.Policy.{Lacks}
 use Rattle.ll_program.specs.declared.failure.Failure.{Failure}
 use Rattle.ll_program.specs.declared.failure.Failure.TheVariants.{File, NoMemory, Opening}
 use Rattle.ll_check.specs.declared.lessons.FileLessons.{FileLessons}
-use Rattle.ll_check.specs.declared.reading.Test.{Test}
+use Rattle.ll_check.specs.declared.check_text.Test.{Test}
 use Rattle.ll_check.specs.Checks.{Tests}
 use Rattle.ll_check.specs.Files.{room_for}
 use Rattle.ll_check.specs.Lessons.{AreMade, AreMet, AreRun, AreTaught, AreUnmet, FailsToMake, HasUnmet, HasUnmetFile}

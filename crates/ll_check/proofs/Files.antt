@@ -28,12 +28,12 @@ use Rattle.ll_program.specs.declared.failure.Failure.{Failure}
 use Rattle.ll_program.specs.declared.failure.Failure.TheVariants.{File, NoMemory}
 use Rattle.ll_program.specs.Policy.{IsSetBy, IsSetup, Lacks}
 use Rattle.ll_check.specs.declared.checks.NamedText.{NamedText}
-use Rattle.ll_check.specs.declared.judging.Style.{Style}
-use Rattle.ll_check.specs.declared.judging.Tally.{Tally}
-use Rattle.ll_check.specs.declared.reading.CheckFault.{CheckFault}
-use Rattle.ll_check.specs.declared.reading.CheckFault.TheVariants as faults
-use Rattle.ll_check.specs.declared.reading.ReadFile.{ReadFile}
-use Rattle.ll_check.specs.declared.reading.Test.{Test}
+use Rattle.ll_check.specs.declared.reporter.Style.{Style}
+use Rattle.ll_check.specs.declared.reporter.Tally.{Tally}
+use Rattle.ll_check.specs.declared.check_text.CheckFault.{CheckFault}
+use Rattle.ll_check.specs.declared.check_text.CheckFault.TheVariants as faults
+use Rattle.ll_check.specs.declared.check_text.ReadFile.{ReadFile}
+use Rattle.ll_check.specs.declared.check_text.Test.{Test}
 use Rattle.ll_check.specs.Checks.{IsFirstBad, Tests, has_test, tests_of}
 use Rattle.ll_check.specs.Files.{AreChecked, AreTestsIn, AreTestsOf, Concludes, HasBadLine, IsCheck, IsFileChecked}
 use Rattle.ll_check.specs.Files.{HasBegun, IsSetFor, IsStopped, MayFail, MayStop, Source, order_for, policy_for}

@@ -15,9 +15,9 @@ use Rattle.ll_session.specs.declared.calls_run.CallReplies.{CallReplies}
 use Rattle.ll_session.specs.declared.calls_run.CallReplies.TheVariants.{Answered, Refused}
 use Rattle.ll_session.specs.declared.client_call.ClientCall.{ClientCall}
 use Rattle.ll_session.specs.declared.setup.Setup.{Setup}
-use Rattle.ll_check.specs.declared.judging.Style.{Style}
-use Rattle.ll_check.specs.declared.judging.Tally.{Tally}
-use Rattle.ll_check.specs.declared.reading.Test.{Test}
+use Rattle.ll_check.specs.declared.reporter.Style.{Style}
+use Rattle.ll_check.specs.declared.reporter.Tally.{Tally}
+use Rattle.ll_check.specs.declared.check_text.Test.{Test}
 use Rattle.ll_check.specs.Replied.{HasReplies}
 use Rattle.ll_check.specs.Report.{IsJudged, Judged, Judges, Tells, failed, judged, shown}
 use Rattle.ll_check.specs.Wanted.{Satisfies}

@@ -1,4 +1,3 @@
-pub mod Answering
 pub mod Courses
 pub mod Files
 pub mod Fronts
@@ -12,5 +11,6 @@ pub mod StepLines
 pub mod Taught
 pub mod Tests
 pub mod Told
+pub mod TreeAnswers
 pub mod Trials
 pub mod Verdicts

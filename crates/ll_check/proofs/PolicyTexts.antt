@@ -8,7 +8,7 @@ use Rattle.std.specs.declared.string.String.{String}
 use Rattle.std.proofs.lemmas.List.{drop_more, map-append}
 use Rattle.ll_check.specs.declared.checks.NamedText.{NamedText}
 use Rattle.ll_check.specs.declared.own_policy.OwnPolicy.{OwnPolicy}
-use Rattle.ll_check.specs.declared.reading.ReadFile.{ReadFile}
+use Rattle.ll_check.specs.declared.check_text.ReadFile.{ReadFile}
 use Rattle.ll_check.specs.Checks.{Own, Tests, own_of, tests_of}
 use Rattle.ll_check.specs.Files.{own_paths, policy_in, source_of, with_path}
 use Rattle.ll_check.proofs.Files.{one_more}

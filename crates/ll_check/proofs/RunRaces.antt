@@ -24,10 +24,10 @@ use Rattle.ll_check.specs.Races.{RunsSteps, judged_step, one_if, shown_step}
 use Rattle.ll_check.specs.Outcomes.{Meets}
 use Rattle.ll_check.specs.Steps.{HasBadStep, IsStepsOf, StepTests, has_step, steps_of}
 use Rattle.ll_check.specs.declared.checks.NamedText.{NamedText}
-use Rattle.ll_check.specs.declared.judging.Style.{Style}
-use Rattle.ll_check.specs.declared.judging.Tally.{Tally}
-use Rattle.ll_check.specs.declared.reading.CheckFault.{CheckFault}
-use Rattle.ll_check.specs.declared.reading.CheckFault.TheVariants as faults
+use Rattle.ll_check.specs.declared.reporter.Style.{Style}
+use Rattle.ll_check.specs.declared.reporter.Tally.{Tally}
+use Rattle.ll_check.specs.declared.check_text.CheckFault.{CheckFault}
+use Rattle.ll_check.specs.declared.check_text.CheckFault.TheVariants as faults
 use Rattle.ll_check.specs.declared.steps.StepFile.{StepFile}
 use Rattle.ll_check.specs.declared.steps.StepTest.{StepTest}
 

@@ -11,7 +11,7 @@ use Rattle.ll_learn.specs.declared.fault.Unlearned.TheVariants.{NoNode}
 use Rattle.ll_learn.specs.declared.learned.Aim.{Aim}
 use Rattle.ll_learn.specs.declared.profile.LearnedProfile.{LearnedProfile}
 use Rattle.ll_learn.specs.Learned.{IsLearned, IsUnlearned}
-use Rattle.ll_wire.specs.Writing.{AppendsFront}
+use Rattle.ll_wire.specs.WriterGains.{AppendsFront}
 use Rattle.ll_wire.specs.declared.header.Header.{Header}
 use Rattle.ll_program.specs.Options.{LearnOrder}
 use Rattle.ll_program.specs.Policy.{header_of}
@@ -20,9 +20,9 @@ use Rattle.ll_program.specs.declared.checked.Checked.TheVariants.{BadLine, Faile
 use Rattle.ll_program.specs.declared.failure.Failure.{Failure}
 use Rattle.ll_program.specs.declared.failure.Failure.TheVariants.{CommandLine, NoMemory, Output}
 use Rattle.ll_check.specs.declared.checks.NamedText.{NamedText}
-use Rattle.ll_check.specs.declared.reading.ReadFile.{ReadFile}
-use Rattle.ll_check.specs.declared.reading.CheckFault.{CheckFault}
-use Rattle.ll_check.specs.declared.reading.CheckFault.TheVariants as faults
+use Rattle.ll_check.specs.declared.check_text.ReadFile.{ReadFile}
+use Rattle.ll_check.specs.declared.check_text.CheckFault.{CheckFault}
+use Rattle.ll_check.specs.declared.check_text.CheckFault.TheVariants as faults
 use Rattle.ll_check.specs.Checks.{Tests, has_own, has_test, tests_of}
 use Rattle.ll_check.specs.Files.{AreTestsIn, HasBadLine, Source, source_of}
 use Rattle.ll_check.specs.Lessons.{AreLessonsIn, Course, EndsLessons, FailsToLearn, HasWrongWord, IsHindered}

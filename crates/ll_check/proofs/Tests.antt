@@ -16,11 +16,11 @@ use Rattle.ll_check.specs.Checks.{SpellsSection, SpellsTest}
 use Rattle.ll_program.specs.Comments.{body_of, is_silent}
 use Rattle.ll_check.specs.Checks.{TakesLine, has_section, is_at_head, is_name, is_section, placed, tests_of, with_own}
 use Rattle.ll_check.specs.Checks.{with_section, with_test}
-use Rattle.ll_check.specs.declared.reading.ReadFile.{ReadFile}
+use Rattle.ll_check.specs.declared.check_text.ReadFile.{ReadFile}
 use Rattle.ll_check.specs.Possible.{CanCome}
 use Rattle.ll_check.specs.Wanted.{SpellsWanted}
 use Rattle.ll_check.specs.declared.wanted.Wanted.{Wanted}
-use Rattle.ll_check.specs.declared.reading.Test.{Test}
+use Rattle.ll_check.specs.declared.check_text.Test.{Test}
 
 -- a test that has something behind its command is found where that ends
 pub found_there : (body command text : List ℕ) (test : Test) → SpellsCall command test.call

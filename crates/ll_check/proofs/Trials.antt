@@ -16,9 +16,9 @@ use Rattle.ll_session.specs.declared.calls_run.CallReplies.TheVariants.{Answered
 use Rattle.ll_session.specs.declared.refusal.Refusal.{Refusal}
 use Rattle.ll_session.specs.declared.setup.Setup.{Setup}
 use Rattle.ll_program.specs.Options.{LearnOrder}
-use Rattle.ll_check.specs.declared.judging.Style.{Style}
-use Rattle.ll_check.specs.declared.judging.Tally.{Tally}
-use Rattle.ll_check.specs.declared.reading.Test.{Test}
+use Rattle.ll_check.specs.declared.reporter.Style.{Style}
+use Rattle.ll_check.specs.declared.reporter.Tally.{Tally}
+use Rattle.ll_check.specs.declared.check_text.Test.{Test}
 use Rattle.ll_check.specs.Checks.{Tests}
 use Rattle.ll_check.specs.Lessons.{AreRun, AreTried, HasTrial, IsTree, IsTried, PassesUnder, is_passed, ran_out}
 use Rattle.ll_check.specs.Report.{AreJudged, IsChecked, IsJudged, Judged, failed}

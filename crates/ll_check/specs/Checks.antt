@@ -10,9 +10,9 @@ use Rattle.ll_session.specs.declared.client_call.ClientCall.{ClientCall}
 use Rattle.ll_program.specs.Comments.{body_of, is_silent}
 use Rattle.ll_wire.specs.Grammar.{SpellsCommand}
 use Rattle.ll_check.specs.declared.own_policy.OwnPolicy.{OwnPolicy}
-use Rattle.ll_check.specs.declared.reading.ReadFile.{ReadFile}
-use Rattle.ll_check.specs.declared.reading.ReadLines.{ReadLines}
-use Rattle.ll_check.specs.declared.reading.Test.{Test}
+use Rattle.ll_check.specs.declared.check_text.ReadFile.{ReadFile}
+use Rattle.ll_check.specs.declared.check_text.ReadLines.{ReadLines}
+use Rattle.ll_check.specs.declared.check_text.Test.{Test}
 use Rattle.ll_check.specs.declared.wanted.Wanted.TheVariants.{Success}
 use Rattle.ll_check.specs.Possible.{CanCome}
 use Rattle.ll_check.specs.Wanted.{SpellsWanted}

@@ -6,7 +6,7 @@ use Rattle.std.specs.Option.{option_map_or}
 use Rattle.ll_rights.specs.declared.limits.TheConstants.{HISTORY_ENTRIES}
 use Rattle.ll_seq.specs.declared.reply.Entry.{Entry}
 use Rattle.ll_wire.specs.Pieces.{pieces}
-use Rattle.ll_wire.specs.Writing.{AppendsFront}
+use Rattle.ll_wire.specs.WriterGains.{AppendsFront}
 use Rattle.ll_session.specs.declared.calls_run.CallReplies.{CallReplies}
 use Rattle.ll_session.specs.declared.fault.RunFault.{RunFault}
 use Rattle.ll_session.specs.declared.setup.Setup.{Setup}
@@ -21,9 +21,9 @@ use Rattle.ll_program.specs.declared.failure.Failure.TheVariants.{File, NoMemory
 use Rattle.ll_program.specs.Failure.{failure_of}
 use Rattle.ll_program.specs.Policy.{IsSetup, Lacks}
 use Rattle.ll_check.specs.declared.checks.NamedText.{NamedText}
-use Rattle.ll_check.specs.declared.judging.Style.{Style}
-use Rattle.ll_check.specs.declared.judging.Style.TheVariants.{Quiet, Usual, Verbose, Tap, Junit, Json}
-use Rattle.ll_check.specs.declared.judging.Tally.{Tally}
+use Rattle.ll_check.specs.declared.reporter.Style.{Style}
+use Rattle.ll_check.specs.declared.reporter.Style.TheVariants.{Quiet, Usual, Verbose, Tap, Junit, Json}
+use Rattle.ll_check.specs.declared.reporter.Tally.{Tally}
 use Rattle.ll_check.specs.Checks.{AreSections, IsFirstBad, Own, Tests, has_test}
 use Rattle.ll_check.specs.Report.{IsChecked}
 use Rattle.ll_check.specs.Styles.{head, tail}

@@ -23,7 +23,7 @@ use Rattle.ll_learn.specs.declared.profile.LearnedProfile.{LearnedProfile}
 use Rattle.ll_learn.specs.Learned.{IsLearned, IsUnlearned}
 use Rattle.ll_learn.specs.Profile.{calls_of, profile_text}
 use Rattle.ll_wire.specs.Transcript.{Writes}
-use Rattle.ll_wire.specs.Writing.{AppendsFront}
+use Rattle.ll_wire.specs.WriterGains.{AppendsFront}
 use Rattle.ll_session.specs.CallsRun.{Makes}
 use Rattle.ll_session.specs.Run.{MayEnd}
 use Rattle.ll_session.specs.declared.calls_run.CallReplies.{CallReplies}
@@ -40,7 +40,7 @@ use Rattle.ll_program.specs.declared.checked.Checked.TheVariants.{BadLine, Faile
 use Rattle.ll_program.specs.declared.failure.Failure.{Failure}
 use Rattle.ll_program.specs.declared.failure.Failure.TheVariants.{CommandLine, File, NoMemory, Opening, Output}
 use Rattle.ll_check.specs.declared.lessons.FileLessons.{FileLessons}
-use Rattle.ll_check.specs.declared.reading.Test.{Test}
+use Rattle.ll_check.specs.declared.check_text.Test.{Test}
 use Rattle.ll_check.specs.Checks.{Tests, has_own, has_test}
 use Rattle.ll_check.specs.Files.{AreTestsIn, HasBadLine, Source, room_for}
 use Rattle.ll_check.specs.Report.{AreJudged, Judged, heading}

@@ -13,9 +13,9 @@ use Rattle.ll_program.specs.Comments.{body_of}
 use Rattle.ll_program.specs.Options.{CheckOrder}
 use Rattle.ll_program.specs.declared.checked.Checked.{Checked}
 use Rattle.ll_program.specs.declared.checked.Checked.TheVariants.{BadLine, Failed, Passed}
-use Rattle.ll_check.specs.declared.judging.Style.{Style}
-use Rattle.ll_check.specs.declared.judging.Style.TheVariants.{Quiet, Usual, Verbose, Tap, Junit, Json}
-use Rattle.ll_check.specs.declared.judging.Tally.{Tally}
+use Rattle.ll_check.specs.declared.reporter.Style.{Style}
+use Rattle.ll_check.specs.declared.reporter.Style.TheVariants.{Quiet, Usual, Verbose, Tap, Junit, Json}
+use Rattle.ll_check.specs.declared.reporter.Tally.{Tally}
 use Rattle.ll_check.specs.declared.steps.StepTest.{StepTest}
 use Rattle.ll_check.specs.Files.{Source, style_of}
 use Rattle.ll_check.specs.Outcomes.{Meets}

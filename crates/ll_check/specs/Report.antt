@@ -10,10 +10,10 @@ use Rattle.ll_session.specs.CallsRun.{Makes, call_line}
 use Rattle.ll_session.specs.declared.calls_run.CallReplies.{CallReplies}
 use Rattle.ll_session.specs.declared.calls_run.CallReplies.TheVariants.{Answered, Refused}
 use Rattle.ll_session.specs.declared.setup.Setup.{Setup}
-use Rattle.ll_check.specs.declared.judging.Style.{Style}
-use Rattle.ll_check.specs.declared.judging.Style.TheVariants.{Quiet, Usual, Verbose, Tap, Junit, Json}
-use Rattle.ll_check.specs.declared.judging.Tally.{Tally}
-use Rattle.ll_check.specs.declared.reading.Test.{Test}
+use Rattle.ll_check.specs.declared.reporter.Style.{Style}
+use Rattle.ll_check.specs.declared.reporter.Style.TheVariants.{Quiet, Usual, Verbose, Tap, Junit, Json}
+use Rattle.ll_check.specs.declared.reporter.Tally.{Tally}
+use Rattle.ll_check.specs.declared.check_text.Test.{Test}
 use Rattle.ll_check.specs.declared.wanted.Wanted.{Wanted}
 use Rattle.ll_program.specs.Comments.{body_of}
 use Rattle.ll_check.specs.Styles.{Texts, json_test, junit_test, tap_test}

@@ -1,9 +1,9 @@
 -- How a test is written for other programs. TAP 14; JUnit's XML as CI systems read it; JSON, RFC 8259
 use Rattle.std.specs.Prelude.{ℕ, ◌+◌, ◌==◌, Bool, List, [], ◌∷◌, ◌++◌, codes, decimal, if◌then◌else◌, length}
 use Rattle.std.specs.List.{flat_map}
-use Rattle.ll_check.specs.declared.judging.Style.{Style}
-use Rattle.ll_check.specs.declared.judging.Style.TheVariants.{Tap, Junit, Json}
-use Rattle.ll_check.specs.declared.judging.Tally.{Tally}
+use Rattle.ll_check.specs.declared.reporter.Style.{Style}
+use Rattle.ll_check.specs.declared.reporter.Style.TheVariants.{Tap, Junit, Json}
+use Rattle.ll_check.specs.declared.reporter.Tally.{Tally}
 use Rattle.ll_check.specs.declared.styles.Syntax.{Syntax}
 use Rattle.ll_check.specs.declared.styles.Syntax.TheVariants as syntax
 use Rattle.ll_check.specs.declared.styles.TestTexts.{TestTexts}

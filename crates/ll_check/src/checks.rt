@@ -13,9 +13,9 @@ ghost use Rattle.ll_check.specs.Files.{HasBegun, IsStopped, MayFail, MayStop};
 ghost use Rattle.ll_check.specs.Files.{end_of, room_for, source_of, style_of};
 ghost use Rattle.ll_check.specs.Styles.{head, tail};
 
+use crate::check_text::{ReadFile, read_sections};
 use crate::missteps::blame_step;
 use crate::policies::{tell_own, tree_for};
-use crate::reading::{ReadFile, read_sections};
 use crate::runner::Runner;
 use crate::trees::in_memory;
 use crate::{CheckFault, LinesOf, Notes, Reporter, Style, Tally, check_file, explain, tell_denied};

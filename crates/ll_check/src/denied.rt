@@ -4,10 +4,10 @@
 ghost use Rattle.std.specs.Prelude.{◌≤◌};
 ghost use Rattle.ll_rights.specs.declared.limits.TheConstants.{TREE_NODES};
 
-use crate::checking::CheckedFile;
-use crate::judging::{Reporter, command_of};
+use crate::check_text::Test;
 use crate::policies::FaultyPolicy;
-use crate::reading::Test;
+use crate::reporter::{Reporter, command_of};
+use crate::section_check::CheckedFile;
 use ll_program::Failure;
 use ll_rights::Errno;
 use ll_seq::{Entry, Reply};

@@ -8,8 +8,8 @@ ghost use Rattle.ll_check.specs.Lessons.{lesson_note, lessons_of, picked};
 ghost use Rattle.ll_check.specs.Report.{heading};
 ghost use Rattle.ll_check.specs.Wanted.{wants_denial};
 
-use crate::judging::command_of;
-use crate::reading::{ReadFile, Test};
+use crate::check_text::{ReadFile, Test};
+use crate::reporter::command_of;
 use ll_learn::{Notes, Origin};
 use ll_program::Failure;
 use std::alloc::{AllocError, Global};

@@ -1,7 +1,7 @@
 //! What is wrong with a schedule's line that is neither silent nor a test. No contract says what is printed: it helps
 //! whoever wrote it.
 
-use crate::explaining::{Blame, LinesOf, blame_editor, explain, line_at};
+use crate::bad_lines::{Blame, LinesOf, blame_editor, explain, line_at};
 use crate::lines::ended;
 use crate::steps::step_of;
 use ll_program::body_of;

@@ -9,10 +9,10 @@ ghost use Rattle.ll_check.specs.Checks.{Tests, tests_of};
 ghost use Rattle.ll_check.specs.Files.{AreTestsIn, HasBadLine, order_for, own_paths, policy_for, policy_in, source_of};
 ghost use Rattle.ll_check.specs.Files.{with_path};
 
+use crate::check_text::{CheckFault, ReadFile};
 use crate::checks::{CheckInput, NamedText, read_all};
 use crate::denied::Notes;
 use crate::own_policy::OwnPolicy;
-use crate::reading::{CheckFault, ReadFile};
 use ll_program::{CheckOptions, Failure, TreeOptions};
 use ll_wire::escaped;
 use std::alloc::{AllocError, Global};

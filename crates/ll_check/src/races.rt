@@ -11,7 +11,7 @@ ghost use Rattle.ll_check.specs.Races.{RunsSteps, end_of_races, shown_step};
 ghost use Rattle.ll_check.specs.Steps.{has_step, steps_of};
 
 use crate::checks::{NamedText, TestKind, report_around, style_of, tell_bad};
-use crate::judging::{Reporter, Tally};
+use crate::reporter::{Reporter, Tally};
 use crate::steps::{StepFile, StepTest, read_all_steps};
 use ll_laws::Step;
 use ll_program::{CheckOptions, Checked, Failure, write_bytes};

@@ -4,7 +4,7 @@ ghost use Rattle.std.specs.Prelude.{◌≡◌, ◌++◌, OnOk, codes};
 ghost use Rattle.ll_check.specs.Races.{judged_step, plain_step, shown_step, step_texts, titled_step};
 ghost use Rattle.ll_check.specs.Styles.{test_in};
 
-use crate::judging::{Reporter, Style};
+use crate::reporter::{Reporter, Style};
 use crate::steps::StepTest;
 use crate::styles::{Syntax, TestTexts};
 use ll_program::body_of;

@@ -8,15 +8,15 @@ ghost use Rattle.ll_check.specs.Files.{source_of};
 ghost use Rattle.ll_check.specs.Steps.{AreSteps, GivesSteps, HasBadStep, IsFirstBadStep, IsStepsOf, SaysNoStep};
 ghost use Rattle.ll_check.specs.Outcomes.{SpellsOutcome};
 ghost use Rattle.ll_check.specs.Steps.{IsToldTest, SpellsStep, SpellsStepAt, SpellsStepTest, steps_of};
-ghost use Rattle.ll_check.specs.declared.reading.CheckFault.{CheckFault};
+ghost use Rattle.ll_check.specs.declared.check_text.CheckFault.{CheckFault};
 ghost use Rattle.ll_check.specs.declared.outcomes.WantedOutcome.{WantedOutcome};
 ghost use Rattle.ll_check.specs.declared.steps.StepTest.{StepTest};
 ghost use Rattle.ll_wire.specs.declared.schedule.ScheduleLine.{ScheduleLine};
 
+use crate::check_text::CheckFault;
 use crate::checks::{BadFile, NamedText};
 use crate::lines::{ended, strip_front};
 use crate::outcomes::{WantedOutcome, read_outcome};
-use crate::reading::CheckFault;
 use ll_program::{body_of, is_silent};
 use ll_rights::Errno;
 use ll_rights::limits::TREE_CLIENTS;

@@ -6,7 +6,7 @@ ghost use Rattle.ll_check.specs.Styles.{junit_end, junit_got, junit_head, junit_
 ghost use Rattle.ll_check.specs.Styles.{tap_end, tap_got, tap_head, tap_reason, tap_section, tap_test, tap_verdict};
 ghost use Rattle.ll_check.specs.Styles.{test_in, text_in, texts_of};
 
-use crate::judging::{Style, Tally};
+use crate::reporter::{Style, Tally};
 use std::alloc::{AllocError, Global};
 
 // Appends these bytes.

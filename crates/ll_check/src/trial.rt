@@ -5,12 +5,12 @@ ghost use Rattle.ll_program.specs.Options.{learn_in};
 ghost use Rattle.ll_check.specs.Checks.{tests_of};
 ghost use Rattle.ll_check.specs.Lessons.{AreTried, FailsToMake, HasTrial};
 
-use crate::checking::check_file;
+use crate::check_text::ReadFile;
 use crate::denied::{Notes, tell_denied};
-use crate::judging::{Reporter, Style};
-use crate::reading::ReadFile;
+use crate::reporter::{Reporter, Style};
 use crate::runner::Runner;
-use crate::running::{failure_of, ran_out};
+use crate::section_check::check_file;
+use crate::test_run::{failure_of, ran_out};
 use crate::trees::Trees;
 use crate::undenied::Candidate;
 use ll_learn::Basis;

@@ -3,8 +3,8 @@
 ghost use Rattle.std.specs.Prelude.{◌≡◌, ◌≤◌};
 ghost use Rattle.ll_rights.specs.declared.limits.TheConstants.{TREE_NODES};
 
+use crate::check_text::Test;
 use crate::lessons::lesson_line;
-use crate::reading::Test;
 use crate::untaught::Taught;
 use ll_learn::{Basis, Grant, LearnedProfile, Origin, Trial, why_undenied};
 use ll_path::Path;

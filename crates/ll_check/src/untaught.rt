@@ -1,7 +1,7 @@
 //! Prints why nothing is learned from lessons. No contract says how.
 
+use crate::check_text::Test;
 use crate::lessons::{FileLessons, lesson_line};
-use crate::reading::Test;
 use ll_learn::{Aim, Origin, Unlearned, cut_of};
 use ll_rights::Right;
 use ll_seq::Entry;

@@ -13,7 +13,7 @@ use Rattle.ll_rights.proofs.Maps.{get-remove_other}
 use Rattle.ll_rights.proofs.Sizes.{one_goes}
 use Rattle.ll_node.specs.InodeTable.{AreDistinct, NotIn}
 use Rattle.ll_laws.proofs.Gain.{no_gain}
-use Rattle.ll_laws.proofs.Withholding.{bytes_are_withheld}
+use Rattle.ll_laws.proofs.WithheldBytes.{bytes_are_withheld}
 use Rattle.ll_seq.specs.History.{IsLegal}
 use Rattle.ll_seq.specs.State.{start}
 use Rattle.ll_seq.specs.declared.reply.Entry.{Entry}

@@ -9,7 +9,7 @@ pub mod Newcomers
 pub mod Orders
 pub mod Replies
 pub mod Started
-pub mod Starving
+pub mod Starvation
 pub mod TieCalls
 pub mod TieSteps
 pub mod TwoSeats

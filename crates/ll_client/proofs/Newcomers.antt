@@ -45,7 +45,7 @@ use Rattle.ll_client.specs.declared.account.Account.{Account}
 use Rattle.ll_client.specs.declared.account.Account.TheVariants.{Slot, Client, Wants}
 use Rattle.ll_client.specs.declared.account.Numbered.{Numbered}
 use Rattle.ll_client.specs.declared.account.Starved.{Starved}
-use Rattle.ll_client.specs.Coming.{HasNoPlace, is_at_full, knows_full, spawn_made}
+use Rattle.ll_client.specs.CallStart.{HasNoPlace, is_at_full, knows_full, spawn_made}
 use Rattle.ll_client.specs.Entries.{AreAccounts, IsAccount, IsDesk, Knows, doing_of, knows, numbered, part_from}
 use Rattle.ll_client.specs.Entries.{part_of}
 use Rattle.ll_client.specs.Hands.{HasCome, child_of, child_told, seen_made, starved_if, starves_made}

@@ -12,7 +12,7 @@ use Rattle.ll_journal.specs.declared.start.Start.{Start}
 use Rattle.ll_journal.specs.declared.start.Start.TheVariants as start
 use Rattle.ll_client.specs.declared.account.Numbered.{Numbered}
 use Rattle.ll_client.specs.declared.account.Starved.{Starved}
-use Rattle.ll_client.specs.Coming.{SetsOut}
+use Rattle.ll_client.specs.CallStart.{SetsOut}
 use Rattle.ll_client.specs.Entries.{doing_of, knows, part_of}
 use Rattle.ll_client.specs.Hands.{seen_started, starved_if, starves_started}
 use Rattle.ll_client.proofs.Accounts.{IsClient}

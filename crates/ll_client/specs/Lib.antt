@@ -1,5 +1,5 @@
+pub mod CallStart
 pub mod Closed
-pub mod Coming
 pub mod Entries
 pub mod Gains
 pub mod Hands

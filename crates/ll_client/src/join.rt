@@ -5,7 +5,7 @@ ghost use Rattle.std.specs.Prelude.{OnErr};
 ghost use Rattle.ll_rights.specs.Map.{get};
 ghost use Rattle.ll_seq.specs.declared.call.Call.TheVariants.{Connect};
 ghost use Rattle.ll_seq.specs.declared.reply.Reply.TheVariants.{Done, Refused};
-ghost use Rattle.ll_client.specs.Coming.{HasNoPlace};
+ghost use Rattle.ll_client.specs.CallStart.{HasNoPlace};
 ghost use Rattle.ll_client.specs.Entries.{AreAccounts, knows, numbered, part_of};
 ghost use Rattle.ll_client.specs.Hands.{HasCome};
 

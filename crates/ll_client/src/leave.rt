@@ -5,7 +5,7 @@ ghost use Rattle.ll_rights.specs.declared.limits.TheConstants.{TREE_CLIENTS};
 ghost use Rattle.ll_node.specs.InodeTable.{AreDistinct};
 ghost use Rattle.ll_laws.specs.Sound.{IsSound};
 ghost use Rattle.ll_journal.specs.Book.{Book, slot_of};
-ghost use Rattle.ll_client.specs.Coming.{kept_at, kept_by, kept_numbers, stacked};
+ghost use Rattle.ll_client.specs.CallStart.{kept_at, kept_by, kept_numbers, stacked};
 ghost use Rattle.ll_client.specs.Gains.{Goes, IsLeft};
 ghost use Rattle.ll_client.specs.Entries.{AreAccounts, starved_in, wants_entry};
 ghost use Rattle.ll_client.specs.Hands.{AreLent, OnlyWants, seen_of, starved_after, starves_left};

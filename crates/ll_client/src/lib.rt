@@ -3,7 +3,6 @@
 
 mod account;
 mod client;
-mod closing;
 mod desk;
 mod direct;
 mod hand;
@@ -19,6 +18,7 @@ mod pass;
 mod reader;
 mod rider;
 mod rule;
+mod settlement;
 mod shape;
 mod spawn;
 mod start;
@@ -29,7 +29,6 @@ mod want;
 
 pub use account::{Account, Numbered, Starved};
 pub use client::Client;
-pub use closing::close;
 pub use desk::Desk;
 pub use left::{Leaving, Left};
 pub use lent::LENT_SLOTS;
@@ -38,6 +37,7 @@ pub use opened::{Opened, open};
 pub use pass::Pass;
 pub use reader::ReadsHistory;
 pub use rider::Rider;
+pub use settlement::close;
 pub use shape::Shape;
 pub use tie::{Blank, Keeper, Naming, Tie};
 pub use walk::Descent;

@@ -4,7 +4,7 @@ ghost use Rattle.std.specs.Prelude.{◌≡◌, ℕ, ◌+◌, ◌*◌, ◌<◌, �
 ghost use Rattle.ll_rights.specs.declared.limits.TheConstants.{HISTORY_ENTRIES, TREE_CLIENTS, TREE_NODES};
 ghost use Rattle.ll_rights.specs.Map.{empty, get};
 ghost use Rattle.ll_journal.specs.Book.{new_book, slot_of};
-ghost use Rattle.ll_client.specs.Coming.{all_kept, kept_at};
+ghost use Rattle.ll_client.specs.CallStart.{all_kept, kept_at};
 ghost use Rattle.ll_client.specs.Entries.{AreAccounts};
 ghost use Rattle.ll_client.specs.Hands.{held_first};
 

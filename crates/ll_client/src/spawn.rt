@@ -4,7 +4,7 @@ ghost use Rattle.std.specs.Prelude.{◌≡◌, ◌≢◌, ℕ, ◌≤◌, ◌+�
 ghost use Rattle.ll_rights.specs.Map.{get};
 ghost use Rattle.ll_seq.specs.declared.call.Call.TheVariants as calls;
 ghost use Rattle.ll_seq.specs.declared.reply.Reply.TheVariants as replies;
-ghost use Rattle.ll_client.specs.Coming.{HasNoPlace, childless};
+ghost use Rattle.ll_client.specs.CallStart.{HasNoPlace, childless};
 ghost use Rattle.ll_client.specs.Entries.{AreAccounts, knows, part_of};
 ghost use Rattle.ll_client.specs.Hands.{HasCome, child_of, child_told};
 

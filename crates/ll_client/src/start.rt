@@ -67,7 +67,7 @@ fn start_call<N: Shape>(
 }
 
 impl<N: Shape> Desk<N> {
-    ghost use Rattle.ll_client.specs.Coming.{SetsOut};
+    ghost use Rattle.ll_client.specs.CallStart.{SetsOut};
 
     /// Makes and answers the client's call if it is for the client alone; otherwise begins its walk. Gives the call
     /// back if it may not begin, or is on a descriptor that the client has. Only ruleset, confine and spawn take

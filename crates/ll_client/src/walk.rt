@@ -22,7 +22,7 @@ pub struct Descent {
 }
 
 impl<N: Shape> Desk<N> {
-    ghost use Rattle.ll_client.specs.Coming.{place_after};
+    ghost use Rattle.ll_client.specs.CallStart.{place_after};
     ghost use Rattle.ll_journal.specs.Book.{Spares, slot_of};
     ghost use Rattle.ll_journal.specs.NextStep.{CanBeLent, ComesNext, IsNamed};
     ghost use Rattle.ll_journal.specs.Stations.{Names};

@@ -13,7 +13,7 @@ use Rattle.ll_audit.specs.Saved.{saved_text}
 use Rattle.ll_seq.specs.declared.reply.Entry.{Entry}
 use Rattle.ll_session.specs.declared.setup.Setup.{Setup}
 use Rattle.ll_wire.specs.declared.header.Header.{Header}
-use Rattle.ll_commands.specs.Serving.{IsDone, IsServed, MayFail, MayStop, listening}
+use Rattle.ll_commands.specs.Service.{IsDone, IsServed, MayFail, MayStop, listening}
 
 -- ---- the names of files
 

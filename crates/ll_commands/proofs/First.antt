@@ -28,7 +28,7 @@ use Rattle.ll_session.proofs.Entered.{IsAmong, IsEntered}
 use Rattle.ll_session.proofs.Growths.{all_stay}
 use Rattle.ll_session.proofs.KeptParts.{IsEntry, all_first, all_map, part_entries}
 use Rattle.ll_session.proofs.Seen.{seen_push, seen_set}
-use Rattle.ll_commands.specs.Loading.{HasBegun, HasLoaded, entry_count}
+use Rattle.ll_commands.specs.Loader.{HasBegun, HasLoaded, entry_count}
 
 -- ---- entries stay
 

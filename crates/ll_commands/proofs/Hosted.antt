@@ -8,8 +8,8 @@ use Rattle.ll_client.specs.Entries.{Knows}
 use Rattle.ll_seq.specs.declared.reply.Entry.{Entry}
 use Rattle.ll_seq.specs.declared.rules.Rules.{Rules}
 use Rattle.ll_session.specs.declared.setup.Setup.{Setup}
-use Rattle.ll_commands.specs.Loading.{HasLoaded, entry_count}
-use Rattle.ll_commands.specs.Serving.{IsServed}
+use Rattle.ll_commands.specs.Loader.{HasLoaded, entry_count}
+use Rattle.ll_commands.specs.Service.{IsServed}
 use Rattle.ll_commands.proofs.First.{seen_within}
 use Rattle.ll_commands.proofs.Loadings.{served}
 

@@ -5,7 +5,7 @@ use Rattle.std.specs.Prelude.{string_bytes}
 use Rattle.std.specs.Borrow.{Bor}
 use Rattle.std.specs.declared.alloc.Global.{Global}
 use Rattle.std.specs.declared.string.String.{String}
-use Rattle.ll_wire.specs.Writing.{AppendsFront}
+use Rattle.ll_wire.specs.WriterGains.{AppendsFront}
 use Rattle.ll_learn.specs.declared.saved_lesson.Learned.{Learned}
 use Rattle.ll_learn.specs.declared.saved_lesson.Learned.TheVariants.{Many, Profile}
 use Rattle.ll_program.specs.Options.{LearnOrder}

@@ -1,8 +1,8 @@
 pub mod Endings
-pub mod ExportFailing
-pub mod Failing
+pub mod ExportFailures
+pub mod Failures
 pub mod First
-pub mod Growing
+pub mod Growth
 pub mod Hosted
 pub mod Lessons
 pub mod Loadings
@@ -10,7 +10,7 @@ pub mod Numbers
 pub mod Spelled
 pub mod Replied
 pub mod Rows
-pub mod Stopping
+pub mod Stops
 pub mod Tables
 pub mod Written
 pub mod Performed

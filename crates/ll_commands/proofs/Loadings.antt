@@ -11,22 +11,22 @@ use Rattle.ll_seq.specs.declared.call.Call.{Call}
 use Rattle.ll_seq.specs.declared.reply.Entry.{Entry}
 use Rattle.ll_seq.specs.declared.reply.Reply.TheVariants.{Done}
 use Rattle.ll_seq.specs.declared.rules.Rules.{Rules}
-use Rattle.ll_session.specs.Opening.{Loads, Makes, Opens, Refuses, Stops, coming_at, fresh, is_told, is_told_to, made}
-use Rattle.ll_session.specs.Opening.{stopped}
+use Rattle.ll_session.specs.FirstClients.{Loads, Makes, Opens, Refuses, Stops, coming_at, fresh, is_told, is_told_to}
+use Rattle.ll_session.specs.FirstClients.{made, stopped}
 use Rattle.ll_session.specs.declared.refusal.Opener.{Opener}
 use Rattle.ll_session.specs.declared.refusal.Opener.TheVariants.{Loader}
 use Rattle.ll_session.specs.declared.refusal.Refusal.{Refusal}
 use Rattle.ll_session.specs.declared.setup.Setup.{Setup}
-use Rattle.ll_session.proofs.Coming.{comes_then, comes_unmade, loads_none, makes_so, no_loader, stops_so}
+use Rattle.ll_session.proofs.FirstComers.{comes_then, comes_unmade, loads_none, makes_so, no_loader, stops_so}
 use Rattle.ll_session.proofs.Ways.{at_end, closes_here}
 use Rattle.ll_session.specs.Between.{Leads, between}
 use Rattle.ll_session.specs.PartySession.{Connects, Session, following, joined}
 use Rattle.ll_session.specs.Talk.{seen_by}
 use Rattle.ll_session.proofs.Edges.{nobody_yet}
-use Rattle.ll_session.proofs.Leading.{so_leads}
+use Rattle.ll_session.proofs.ActChains.{so_leads}
 use Rattle.ll_session.proofs.Turns.{joins}
-use Rattle.ll_commands.specs.Loading.{HasBegun, HasLoaded, WasStopped, entry_count}
-use Rattle.ll_commands.specs.Serving.{BeginsLoaded, IsServed, MayLoad}
+use Rattle.ll_commands.specs.Loader.{HasBegun, HasLoaded, WasStopped, entry_count}
+use Rattle.ll_commands.specs.Service.{BeginsLoaded, IsServed, MayLoad}
 use Rattle.ll_commands.proofs.First.{come_first, loaded_all}
 
 module _ (rules : Rules) (room limit : ℕ) where

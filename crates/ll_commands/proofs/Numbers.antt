@@ -9,7 +9,7 @@ use Rattle.ll_seq.specs.declared.call.Call.TheVariants.{Connect}
 use Rattle.ll_seq.specs.State.{State, start}
 use Rattle.ll_seq.proofs.Consequences.{step-next}
 use Rattle.ll_session.specs.declared.setup.Setup.{Setup}
-use Rattle.ll_commands.specs.Opening.{Loads, Makes, Opens}
+use Rattle.ll_commands.specs.OpenedTree.{Loads, Makes, Opens}
 
 -- each call uses one number at most
 makes_next : (client : ℕ) (s : State) (calls : List Call) (t : State) → Makes client s calls t

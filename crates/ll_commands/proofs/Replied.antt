@@ -8,7 +8,7 @@ use Rattle.ll_seq.specs.declared.reply.Reply.{Reply}
 use Rattle.ll_seq.specs.declared.reply.Reply.TheVariants.{Refused}
 use Rattle.ll_seq.specs.State.{State}
 use Rattle.ll_seq.specs.Step.{step}
-use Rattle.ll_commands.specs.Opening.{IsRefusedThere, MakesOne}
+use Rattle.ll_commands.specs.OpenedTree.{IsRefusedThere, MakesOne}
 
 module _ (client fresh : ℕ) (s t : State) (call : Call) (reply : Reply) where
   pub makes_one : (reply ≢ Refused NoMemory → ◌≡◌ {A = Reply × State} (reply, t) (step s client call fresh))

@@ -10,7 +10,7 @@ use Rattle.ll_program.specs.declared.failure.Failure.TheVariants.{CommandLine, P
 use Rattle.ll_program.specs.declared.failure.Failure.TheVariants.{NoMemory}
 use Rattle.ll_session.specs.declared.refusal.Refusal.{Refusal}
 use Rattle.ll_session.specs.declared.setup.Setup.{Setup}
-use Rattle.ll_commands.specs.Opening.{FailsSo, IsStopped}
+use Rattle.ll_commands.specs.OpenedTree.{FailsSo, IsStopped}
 use Rattle.ll_commands.specs.Rights.{LacksRights}
 
 pub fails_so : (P Q : Refusal → Type 0) (f : Failure) → ((refusal : Refusal) → P refusal → Q refusal) → FailsSo P f

@@ -5,7 +5,7 @@ use Rattle.std.proofs.Common.{inl, inr, subst, sym}
 use Rattle.ll_program.specs.declared.failure.Failure.{Failure}
 use Rattle.ll_program.specs.declared.failure.Failure.TheVariants.{NoMemory, Output}
 use Rattle.ll_wire.specs.Transcript.{Writes}
-use Rattle.ll_wire.specs.Writing.{AppendsFront}
+use Rattle.ll_wire.specs.WriterGains.{AppendsFront}
 use Rattle.ll_commands.specs.Output.{FailsToTell}
 
 -- such a text is written, where the text is known

@@ -12,7 +12,7 @@ use Rattle.ll_program.specs.declared.failure.Failure.{Failure}
 use Rattle.ll_program.specs.declared.report.AnswerForm.{AnswerForm}
 use Rattle.ll_program.specs.declared.report.AnswerForm.TheVariants as answers
 use Rattle.ll_session.specs.declared.setup.Setup.{Setup}
-use Rattle.ll_commands.specs.Opening.{Opens}
+use Rattle.ll_commands.specs.OpenedTree.{Opens}
 use Rattle.ll_commands.specs.Output.{FailsToTell}
 use Rattle.ll_commands.specs.Rights.{LacksRights, loader_calls, table_tree}
 use Rattle.ll_why.specs.Difference.{AreDifferences, Seen, paths_compared}

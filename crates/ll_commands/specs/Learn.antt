@@ -3,7 +3,7 @@ use Rattle.std.specs.Prelude.{⊤, ◌≡◌, ◌⊎◌, ℕ, List, Option, Some
 use Rattle.ll_path.specs.Path.{path_of_text}
 use Rattle.ll_wire.specs.Pieces.{pieces}
 use Rattle.ll_wire.specs.Transcript.{Writes}
-use Rattle.ll_wire.specs.Writing.{AppendsFront}
+use Rattle.ll_wire.specs.WriterGains.{AppendsFront}
 use Rattle.ll_audit.specs.Saved.{IsFirstBad}
 use Rattle.ll_audit.specs.declared.verdict.Verdict.TheVariants.{Legal, Illegal, BadLine}
 use Rattle.ll_learn.specs.SavedLesson.{IsLearnedBy, IsProfileText, TeachesMuch, TeachesNothing}

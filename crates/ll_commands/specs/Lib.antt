@@ -5,13 +5,13 @@ pub mod Difference
 pub mod Export
 pub mod Fixed
 pub mod Json
-pub mod Loading
-pub mod Opening
+pub mod Loader
+pub mod OpenedTree
 pub mod Output
 pub mod Profiles
 pub mod Rights
 pub mod RightsEnd
 pub mod Schedules
-pub mod Serving
+pub mod Service
 pub mod Why
 pub mod Learn

@@ -2,7 +2,7 @@
 use Rattle.std.specs.Prelude.{◌≡◌, ◌⊎◌, ℕ, List, Option}
 use Rattle.ll_program.specs.declared.failure.Failure.{Failure}
 use Rattle.ll_program.specs.declared.failure.Failure.TheVariants.{Output}
-use Rattle.ll_wire.specs.Writing.{AppendsFront}
+use Rattle.ll_wire.specs.WriterGains.{AppendsFront}
 
 -- there is no such text for this reason, and nothing is written; or the output fails after a prefix of one
 abbrev pub FailsToTell : (IsText : List ℕ → Type 0) → (IsReason : Failure → Type 0) → (out out' : Option (List ℕ))

@@ -15,7 +15,7 @@ use Rattle.ll_program.specs.declared.failure.Failure.{Failure}
 use Rattle.ll_program.specs.declared.failure.Failure.TheVariants.{CommandLine, Policy, Opening, File, Output, Socket}
 use Rattle.ll_program.specs.declared.failure.Failure.TheVariants.{NoMemory}
 use Rattle.ll_session.specs.declared.setup.Setup.{Setup}
-use Rattle.ll_commands.specs.Opening.{Opens, IsStopped}
+use Rattle.ll_commands.specs.OpenedTree.{Opens, IsStopped}
 use Rattle.ll_commands.specs.Output.{FailsToTell}
 use Rattle.ll_why.specs.PathRows.{AreRows, paths_or_nodes}
 use Rattle.ll_why.specs.declared.path_rows.RowStyle.{RowStyle}

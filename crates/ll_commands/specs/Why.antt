@@ -22,7 +22,7 @@ use Rattle.ll_program.specs.declared.failure.Failure.TheVariants.{NoMemory}
 use Rattle.ll_session.specs.declared.setup.Setup.{Setup}
 use Rattle.ll_program.specs.Sources.{named}
 use Rattle.ll_wire.specs.Transcript.{Writes}
-use Rattle.ll_commands.specs.Opening.{IsStopped, Opens}
+use Rattle.ll_commands.specs.OpenedTree.{IsStopped, Opens}
 use Rattle.ll_commands.specs.Output.{FailsToTell}
 use Rattle.ll_why.specs.CallWhy.{IsCallWhy, IsCommand}
 use Rattle.ll_why.specs.Entries.{IsHistoryWhy}

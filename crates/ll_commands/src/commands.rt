@@ -7,7 +7,7 @@ ghost use Rattle.ll_rights.specs.Map.{has};
 ghost use Rattle.ll_seq.specs.History.{is_connect};
 ghost use Rattle.ll_seq.specs.declared.call.Call as calls_of;
 ghost use Rattle.ll_seq.specs.State.{State};
-ghost use Rattle.ll_commands.specs.Opening.{FailsSo, IsStopped, Opens};
+ghost use Rattle.ll_commands.specs.OpenedTree.{FailsSo, IsStopped, Opens};
 ghost use Rattle.ll_session.specs.Session.{AreOthers};
 ghost use Rattle.ll_commands.specs.Why.{Follows, HasNoCommand};
 ghost use Rattle.ll_why.specs.CallWhy.{IsCallWhy, IsCommand};

@@ -10,7 +10,7 @@ ghost use Rattle.ll_commands.specs.Rights.{LacksRights, loader_calls};
 ghost use Rattle.clap.specs.Words.{Text};
 ghost use Rattle.ll_why.specs.Difference.{AreDifferences, paths_compared, seen_by};
 
-use crate::opening::{Opened, open_tree};
+use crate::opened_tree::{Opened, open_tree};
 use crate::rights::loader_calls;
 use ll_path::Path;
 use ll_program::{

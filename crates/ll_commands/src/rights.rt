@@ -7,7 +7,7 @@ ghost use Rattle.ll_seq.specs.Step.{client_of};
 ghost use Rattle.ll_commands.specs.Rights.{IsTable, IsTableIn, LacksTable, MayFail, loader_calls, style_of};
 ghost use Rattle.ll_why.specs.PathRows.{AreRows, paths_or_nodes};
 
-use crate::opening::{Opened, open_tree};
+use crate::opened_tree::{Opened, open_tree};
 use ll_path::Path;
 use ll_program::{AnswerForm, Failure, RightsOptions, TreeOptions, paths_of, setup_of, write_text};
 use ll_seq::Call;

@@ -16,7 +16,7 @@ ghost use Rattle.ll_program.specs.declared.failure.Failure.{Failure};
 ghost use Rattle.ll_program.specs.Failure.{failure_in_session, IsOfDevices, IsOfSaving};
 ghost use Rattle.ll_steps.specs.Tells.{answer_line};
 ghost use Rattle.ll_steps.specs.Told.{IsBegunAs, IsToldAs, lines_answered};
-ghost use Rattle.ll_wire.specs.Writing.{AppendsFront};
+ghost use Rattle.ll_wire.specs.WriterGains.{AppendsFront};
 
 use ll_picture::{Film, Window};
 use ll_program::{Conclusion, Failure, ScheduleOptions, Stopped};

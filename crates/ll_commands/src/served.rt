@@ -5,11 +5,11 @@ ghost use Rattle.std.specs.Io.KnownBytes.{Appends};
 ghost use Rattle.std.specs.List.{All};
 ghost use Rattle.ll_wire.specs.Entries.{IsEntry};
 ghost use Rattle.ll_program.specs.Options.{served_in};
-ghost use Rattle.ll_commands.specs.Serving.{IsDone, IsServed, MayFail, MayStop, listening};
+ghost use Rattle.ll_commands.specs.Service.{IsDone, IsServed, MayFail, MayStop, listening};
 
-use crate::hosting::host_on;
 use crate::log::Log;
 use crate::port::Binds;
+use crate::service::host_on;
 use ll_program::{
     Failure, Recorded, ServeOptions, begin_record, header_of, save_history, setup_of,
 };

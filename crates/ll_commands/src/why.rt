@@ -5,7 +5,7 @@ ghost use Rattle.std.specs.Io.KnownBytes.{Appends};
 ghost use Rattle.ll_rights.specs.declared.limits.TheConstants.{TREE_NODES};
 ghost use Rattle.ll_wire.specs.Transcript.{Writes};
 ghost use Rattle.ll_program.specs.Options.{tree_in, why_in};
-ghost use Rattle.ll_wire.specs.Writing.{AppendsFront};
+ghost use Rattle.ll_wire.specs.WriterGains.{AppendsFront};
 ghost use Rattle.ll_commands.specs.Why.{CommandAnswers, CommandFails, EntryAnswers, EntryFails, IsAnswer};
 ghost use Rattle.ll_commands.specs.Why.{IsToldSo, LacksAnswer, MayFail, answer_text, conclusion_of, why_style};
 

@@ -1,6 +1,6 @@
 pub mod OneByOne
 pub mod Bits
 pub mod Carried
-pub mod Finding
+pub mod FirstDenial
 pub mod Mapped
 pub mod Sets

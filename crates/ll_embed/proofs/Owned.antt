@@ -23,14 +23,14 @@ use Rattle.ll_seq.specs.State.{State, start}
 use Rattle.ll_seq.specs.Step.{step}
 use Rattle.ll_plain.specs.Refusal.{is_refusal}
 use Rattle.ll_wire.proofs.Cuts.{kept, long}
-use Rattle.ll_wire.specs.Cutting.{Holds}
+use Rattle.ll_wire.specs.LineCuts.{Holds}
 use Rattle.ll_wire.specs.Grammar.{SpellsCommand}
 use Rattle.ll_wire.specs.Reads.{ReadsBy, holds_text}
 use Rattle.ll_embed.specs.Alone.{IsUnreadIn}
 use Rattle.ll_session.specs.Beside.{placed}
 use Rattle.ll_session.specs.Counts.{counted, noted}
-use Rattle.ll_session.specs.Opening.{Coming, Comes, EndsOpening, Loads, Makes, Refuses, Stops, coming_at, fresh, made}
-use Rattle.ll_session.specs.Opening.{unconnected, unmade}
+use Rattle.ll_session.specs.FirstClients.{Coming, Comes, EndsOpening, Loads, Makes, Refuses, Stops, coming_at, fresh}
+use Rattle.ll_session.specs.FirstClients.{made, unconnected, unmade}
 use Rattle.ll_session.specs.PartySession.{Session, Called, Connects, answered, brought, following, full, joined, next}
 use Rattle.ll_session.specs.PartySession.{starved}
 use Rattle.ll_session.specs.Session.{Answers, as_written, bad, calls, unread}
@@ -41,7 +41,7 @@ use Rattle.ll_session.specs.declared.refusal.Opener.TheVariants.{Loader, Profile
 use Rattle.ll_session.specs.declared.refusal.Refusal.{Refusal}
 use Rattle.ll_session.specs.declared.setup.Setup.{Setup}
 use Rattle.ll_session.proofs.Comers.{connected_there}
-use Rattle.ll_session.proofs.Coming.{next_call}
+use Rattle.ll_session.proofs.FirstComers.{next_call}
 use Rattle.ll_session.proofs.SessionPlaces.{after_first, how_many, in_place, no_place}
 
 -- ---- clients by their numbers

@@ -7,8 +7,8 @@ use Rattle.ll_program.specs.Policy.{IsSetup, Lacks}
 use Rattle.ll_program.specs.declared.failure.Failure.{Failure}
 use Rattle.ll_program.specs.declared.failure.Failure.TheVariants as failures
 use Rattle.ll_session.specs.declared.setup.Setup.{Setup}
-use Rattle.ll_why.proofs.Growing.{empty_is}
-use Rattle.ll_commands.specs.Opening.{FailsSo, IsStopped}
+use Rattle.ll_why.proofs.TextGrowth.{empty_is}
+use Rattle.ll_commands.specs.OpenedTree.{FailsSo, IsStopped}
 use Rattle.ll_commands.specs.Why.{HasNoCommand, IsNoCommand}
 use Rattle.ll_embed.specs.Answers.{fault_at}
 use Rattle.ll_embed.specs.Lines.{LacksCommand, LacksPath}

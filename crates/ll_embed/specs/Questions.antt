@@ -13,7 +13,7 @@ use Rattle.ll_program.specs.declared.report.AnswerForm.{AnswerForm}
 use Rattle.ll_program.specs.declared.report.AnswerForm.TheVariants.{Json}
 use Rattle.ll_session.specs.declared.refusal.Refusal.{Refusal}
 use Rattle.ll_session.specs.declared.setup.Setup.{Setup}
-use Rattle.ll_commands.specs.Opening.{IsStopped}
+use Rattle.ll_commands.specs.OpenedTree.{IsStopped}
 use Rattle.ll_commands.specs.Rights.{IsTable}
 use Rattle.ll_commands.specs.Why.{IsCommandWhy}
 use Rattle.ll_why.specs.declared.style.WhyStyle.TheVariants.{Lines}

@@ -39,12 +39,12 @@ pub struct OwnTree {
 impl OwnTree {
     ghost use Rattle.ll_embed.specs.Alone.{IsUnreadIn, own};
     ghost use Rattle.ll_session.specs.CallsRun.{call_line};
-    ghost use Rattle.ll_session.specs.Opening.{Comes, Loads, Makes, Opens, Refuses, Stops, begun, coming_at, fresh};
-    ghost use Rattle.ll_session.specs.Opening.{made};
+    ghost use Rattle.ll_session.specs.FirstClients.{Comes, Loads, Makes, Opens, Refuses, Stops, begun, coming_at};
+    ghost use Rattle.ll_session.specs.FirstClients.{fresh, made};
     ghost use Rattle.ll_session.specs.PartySession.{Called, Connects, joined};
     ghost use Rattle.ll_session.specs.Session.{Answers, AreOthers};
     ghost use Rattle.ll_session.specs.Strict.{IsEnd};
-    ghost use Rattle.ll_wire.specs.Cutting.{Holds};
+    ghost use Rattle.ll_wire.specs.LineCuts.{Holds};
 
     /// Returns a new tree without clients. Errors: memory ran out.
     pub fn new(alloc: Global, setup: &Setup) -> Result<OwnTree, AllocError>

@@ -26,7 +26,7 @@ use Rattle.ll_journal.specs.Book.{Seat, Book, Spares, inode_in, held_of, mark_of
 use Rattle.ll_journal.specs.Direct.{TakesSpare}
 use Rattle.ll_journal.specs.Kept.{AreSeated, IsKept, walks_from, world_of, book_of, spares_of}
 use Rattle.ll_node.specs.InodeTable.{Table, IsTable}
-use Rattle.ll_journal.proofs.Advancing.{join_done}
+use Rattle.ll_journal.proofs.Advances.{join_done}
 use Rattle.ll_journal.proofs.NewClients.{clients_len, seated_more, walks_more, spares_more}
 use Rattle.ll_journal.proofs.ClientTables.{table_more}
 use Rattle.ll_journal.proofs.HeldAfter.{held_answered}
@@ -34,7 +34,7 @@ use Rattle.ll_journal.proofs.LentSlots.{slot_kept}
 use Rattle.ll_journal.proofs.OwnAnswers.{connect_done}
 use Rattle.ll_journal.proofs.Shown.{shown_answered}
 use Rattle.ll_node.proofs.SlotAccounts.{content_of}
-use Rattle.ll_journal.proofs.Starting.{sound_after}
+use Rattle.ll_journal.proofs.Starts.{sound_after}
 
 -- ---- accounts
 

@@ -15,7 +15,7 @@ use Rattle.ll_seq.specs.Found.{AreFacts}
 use Rattle.ll_seq.specs.Passed.{has_path}
 use Rattle.ll_seq.specs.declared.found.Found.{Found}
 use Rattle.ll_seq.specs.declared.found.Spot.{Spot}
-use Rattle.ll_node.specs.Enacting.{Scene, InHand, IsGiven}
+use Rattle.ll_node.specs.Enactment.{Scene, InHand, IsGiven}
 use Rattle.ll_node.specs.declared.held.Held.{Held}
 use Rattle.ll_node.specs.InodeTable.{AreDistinct}
 use Rattle.ll_seq.specs.declared.call.Call.{Call}
@@ -42,10 +42,10 @@ use Rattle.ll_journal.specs.Performed.{EndsAs, IsAtEnd, at_seat, lies_in}
 use Rattle.ll_journal.specs.Stopped.{IsEndOf, IsReachedEnd}
 use Rattle.ll_journal.proofs.Begun.{names_one}
 use Rattle.ll_journal.proofs.Committed.{scene_at, told_slots}
-use Rattle.ll_journal.proofs.Entering.{walk_here}
+use Rattle.ll_journal.proofs.RootDescents.{walk_here}
 use Rattle.ll_journal.proofs.MarkOf.{mark_none, whose_mark}
-use Rattle.ll_journal.proofs.Starting.{at_place}
-use Rattle.ll_journal.proofs.Stepping.{there}
+use Rattle.ll_journal.proofs.Starts.{at_place}
+use Rattle.ll_journal.proofs.OwnSteps.{there}
 use Rattle.ll_journal.proofs.ClientTables.{many_spares}
 
 left_true : (a b : Bool) → (a && b) ≡ true → a ≡ true

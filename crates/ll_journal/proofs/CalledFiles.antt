@@ -28,12 +28,12 @@ use Rattle.ll_journal.specs.Book.{Seat, inode_in, slot_of, held_of}
 use Rattle.ll_journal.specs.Direct.{IsOpen, IsAstrayOn}
 use Rattle.ll_journal.specs.Files.{on_file}
 use Rattle.ll_journal.specs.Kept.{IsKept, seat_at, world_of, book_of}
-use Rattle.ll_journal.proofs.Advancing.{direct_not_now, direct_full, direct_replies}
+use Rattle.ll_journal.proofs.Advances.{direct_not_now, direct_full, direct_replies}
 use Rattle.ll_journal.proofs.Begun.{walk_at}
 use Rattle.ll_journal.proofs.FileCalls.{on_descriptor, on_none}
 use Rattle.ll_journal.proofs.LentSlots.{slot_holds, slot_inode, got_of_index}
 use Rattle.ll_journal.proofs.OpenFiles.{descriptor_file}
-use Rattle.ll_journal.proofs.Stepping.{there}
+use Rattle.ll_journal.proofs.OwnSteps.{there}
 
 -- ---- whether the call is one for this step
 

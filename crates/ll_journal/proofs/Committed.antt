@@ -11,7 +11,7 @@ use Rattle.ll_node.specs.Accounts.{account, accounts, names_map}
 use Rattle.ll_node.specs.declared.held.Held.{Held}
 use Rattle.ll_node.specs.Lent.{vacant}
 use Rattle.ll_node.specs.InodeTable.{IsTable, without_inode}
-use Rattle.ll_node.specs.Enacting.{Scene, LeavesTable}
+use Rattle.ll_node.specs.Enactment.{Scene, LeavesTable}
 use Rattle.ll_node.proofs.GivenSlots.{put_again}
 use Rattle.ll_seq.specs.declared.client.ClientRecord.{ClientRecord}
 use Rattle.ll_seq.specs.declared.reply.Reply.{Reply}
@@ -35,12 +35,12 @@ use Rattle.ll_node.proofs.SlotLists.{set_same, set_other}
 use Rattle.ll_journal.proofs.Ended.{commit_equation}
 use Rattle.ll_journal.proofs.MarkOf.{are_clients, has_mark_stale, mark_same}
 use Rattle.ll_journal.proofs.MadeNodes.{has_let_go, would_have_made}
-use Rattle.ll_journal.proofs.Overtaking.{overtaken_seat, overtaken_seats, seated_overtaken, spares_overtaken}
-use Rattle.ll_journal.proofs.Overtaking.{walks_overtaken}
+use Rattle.ll_journal.proofs.StaleWalks.{overtaken_seat, overtaken_seats, seated_overtaken, spares_overtaken}
+use Rattle.ll_journal.proofs.StaleWalks.{walks_overtaken}
 use Rattle.ll_journal.proofs.Ruled.{room_stays}
 use Rattle.ll_journal.proofs.Shown.{shown_answered}
-use Rattle.ll_journal.proofs.Starting.{sound_after}
-use Rattle.ll_journal.proofs.Stepping.{entered, walks_same}
+use Rattle.ll_journal.proofs.Starts.{sound_after}
+use Rattle.ll_journal.proofs.OwnSteps.{entered, walks_same}
 
 -- as the accounts of slots are told
 pub told_slots : (b : Book) (slots : List ℕ)

@@ -18,7 +18,7 @@ use Rattle.ll_laws.specs.World.{overtaken}
 use Rattle.ll_journal.specs.Book as book
 use Rattle.ll_journal.specs.Performed.{IsEndAt, moved_list}
 use Rattle.ll_journal.specs.declared.decide_end.Moved.{Moved}
-use Rattle.ll_journal.proofs.Overtaking.{or_false, overtaken_seat}
+use Rattle.ll_journal.proofs.StaleWalks.{or_false, overtaken_seat}
 
 -- ---- what is granted on the path
 

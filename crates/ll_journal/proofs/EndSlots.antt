@@ -33,9 +33,9 @@ use Rattle.ll_journal.specs.Needs.{IsBesides, slot_besides, with_slot}
 use Rattle.ll_journal.specs.Steps.{IsInTurn}
 use Rattle.ll_journal.specs.WalkEnds.{AreEnough, IsNeeded, nodes_at_end, spare_of}
 use Rattle.ll_journal.proofs.AtEnds.{IsEnd, second_is_end}
-use Rattle.ll_journal.proofs.Descending.{living_one, living_placed, turn_stands}
+use Rattle.ll_journal.proofs.Descents.{living_one, living_placed, turn_stands}
 use Rattle.ll_node.proofs.SlotLists.{all_more}
-use Rattle.ll_journal.proofs.Gathering.{Gathers, gathers_slot, lent_already}
+use Rattle.ll_journal.proofs.GatheredSlots.{Gathers, gathers_slot, lent_already}
 use Rattle.ll_journal.proofs.LastSpots.{IsThere, first_last, last_first, makes_last, there_last}
 use Rattle.ll_journal.proofs.LentSlots.{slot_holds}
 use Rattle.ll_journal.proofs.StandingWalks.{is_placed}

@@ -25,7 +25,7 @@ use Rattle.ll_journal.specs.declared.seat.Seat.TheInside.{Inside}
 use Rattle.ll_journal.specs.Book as book
 use Rattle.ll_journal.specs.Kept.{seat_at, walks_from}
 use Rattle.ll_journal.specs.Seated.{is_at_ends, position_at, seat_of}
-use Rattle.ll_journal.proofs.Advancing.{commit_full, commit_replies}
+use Rattle.ll_journal.proofs.Advances.{commit_full, commit_replies}
 use Rattle.ll_node.proofs.SlotLists.{set_same, set_other}
 use Rattle.ll_journal.proofs.Begun.{walk_at}
 

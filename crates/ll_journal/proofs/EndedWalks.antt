@@ -12,7 +12,7 @@ use Rattle.ll_laws.specs.World.{World, domain_of, without_walk, released}
 use Rattle.ll_seq.specs.declared.call.Call.TheVariants.{Spawn}
 use Rattle.ll_seq.specs.declared.client.ClientRecord.{ClientRecord}
 use Rattle.ll_seq.specs.State.{new_client}
-use Rattle.ll_journal.proofs.Stepping.{there}
+use Rattle.ll_journal.proofs.OwnSteps.{there}
 use Rattle.ll_journal.proofs.ClientTables.{many_spares}
 use Rattle.ll_laws.specs.Sound.{IsSound}
 use Rattle.ll_laws.proofs.SoundSteps.{sound_ended, with_stale_none}
@@ -21,12 +21,12 @@ use Rattle.ll_journal.specs.Book.{Seat, Book, Spares, inode_in, slot_of, held_of
 use Rattle.ll_journal.specs.WalkEnds.{is_lent}
 use Rattle.ll_journal.specs.Kept.{IsKept, world_of, book_of}
 use Rattle.ll_journal.proofs.Ended.{walks_ended}
-use Rattle.ll_journal.proofs.Entering.{walk_here}
+use Rattle.ll_journal.proofs.RootDescents.{walk_here}
 use Rattle.ll_journal.proofs.LentAfter.{one_slot}
 use Rattle.ll_journal.proofs.LentSlots.{slot_kept}
 use Rattle.ll_journal.proofs.MarkOf.{Leaves, are_clients, has_mark_of, leaves_removed, mark_found, mark_gone, mark_is}
 use Rattle.ll_journal.proofs.MarkOf.{mark_left}
-use Rattle.ll_journal.proofs.Starting.{changed_world}
+use Rattle.ll_journal.proofs.Starts.{changed_world}
 
 -- the marks of others stay
 abbrev pub others : ℕ → Option ℕ → Option ℕ

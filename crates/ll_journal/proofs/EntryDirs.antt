@@ -38,7 +38,7 @@ use Rattle.ll_laws.proofs.Unrefused.{nil_left, nil_right, not_refused, neither, 
 use Rattle.ll_laws.proofs.Gain.{done_of, Passes, passes, start_tree, kept_tree}
 use Rattle.ll_laws.specs.World.{World, shown}
 use Rattle.ll_laws.proofs.Undisturbed.{let_go_entries, with_bytes_entries, not_empty}
-use Rattle.ll_node.proofs.Living.{bytes_kind, let_go_kind, make_kind_other}
+use Rattle.ll_node.proofs.Survivors.{bytes_kind, let_go_kind, make_kind_other}
 use Rattle.ll_journal.proofs.OpenFiles.{AreFiles, OpensFiles, end_known, own_files, start_files, step_files}
 
 abbrev pub HasNode : State → ℕ → Type 0

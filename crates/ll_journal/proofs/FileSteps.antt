@@ -19,7 +19,7 @@ use Rattle.ll_seq.specs.Memory.{takes_memory}
 use Rattle.ll_seq.specs.State.{State, kind_of}
 use Rattle.ll_seq.specs.Step.{step, refusals, client_of}
 use Rattle.ll_seq.specs.Effects.{let_go, lives, with_bytes, with_client}
-use Rattle.ll_node.proofs.Living.{let_go_gone, let_go_next}
+use Rattle.ll_node.proofs.Survivors.{let_go_gone, let_go_next}
 use Rattle.ll_node.proofs.SlotAccounts.{content_of, bytes_put, bytes_other, let_go_other, let_go_living}
 use Rattle.ll_laws.specs.World.{World, NotNow, Replied, advance, shown, is_full, next_number, reply_to}
 use Rattle.ll_laws.specs.declared.step.Step.TheVariants.{FdCommit}
@@ -47,9 +47,9 @@ use Rattle.ll_journal.proofs.LentSlots.{slot_holds, slot_vacant, spares_others, 
 use Rattle.ll_journal.proofs.OpenFiles.{file_kind}
 use Rattle.ll_journal.proofs.Shown.{shown_reply}
 use Rattle.ll_journal.proofs.Starved.{file_takes, starves_by}
-use Rattle.ll_journal.proofs.Starting.{sound_after, spares_kept}
-use Rattle.ll_journal.proofs.Stepping.{there, walks_same, seated_put, set_again, world_unchanged, book_unchanged}
-use Rattle.ll_journal.proofs.Stepping.{kept_unchanged, entered}
+use Rattle.ll_journal.proofs.Starts.{sound_after, spares_kept}
+use Rattle.ll_journal.proofs.OwnSteps.{there, walks_same, seated_put, set_again, world_unchanged, book_unchanged}
+use Rattle.ll_journal.proofs.OwnSteps.{kept_unchanged, entered}
 use Rattle.ll_journal.proofs.CalledFiles.{file_replies, owner, owner_of, lives_on, some_inode, lies, file_is, placed_at}
 
 -- ---- the whole step

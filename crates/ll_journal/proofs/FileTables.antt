@@ -10,7 +10,7 @@ use Rattle.ll_seq.specs.declared.node.Node.{Node}
 use Rattle.ll_seq.specs.State.{State, kind_of}
 use Rattle.ll_seq.specs.Effects.{with_bytes}
 use Rattle.ll_seq.proofs.FactsKept.{kept_bytes}
-use Rattle.ll_node.proofs.Living.{bytes_kind, bytes_next}
+use Rattle.ll_node.proofs.Survivors.{bytes_kind, bytes_next}
 use Rattle.ll_node.specs.InodeTable.{Table, IsTable, without_inode}
 use Rattle.ll_rights.proofs.Sizes.{same_len}
 use Rattle.ll_laws.proofs.Tests.{or_false}

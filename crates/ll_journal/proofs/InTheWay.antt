@@ -31,8 +31,8 @@ use Rattle.ll_journal.specs.Checks.{goes_on, is_marked_at, spot_at}
 use Rattle.ll_journal.specs.InWay.{IsFreeFrom, IsInWay, node_at_end, node_in_way}
 use Rattle.ll_journal.specs.Seated.{call_in, first_here_in, is_at_ends, second_here_in}
 use Rattle.ll_journal.proofs.AtEnds.{IsEnd, any_last, first_is_end, second_is_end}
-use Rattle.ll_journal.proofs.Descending.{living_one, living_placed}
-use Rattle.ll_journal.proofs.Entering.{walk_here}
+use Rattle.ll_journal.proofs.Descents.{living_one, living_placed}
+use Rattle.ll_journal.proofs.RootDescents.{walk_here}
 use Rattle.ll_journal.proofs.LastSpots.{IsThere, last_found, marked_last, there_last}
 use Rattle.ll_journal.proofs.LentSlots.{slot_holds, slot_inode}
 use Rattle.ll_journal.proofs.StandingWalks.{is_placed}

@@ -32,7 +32,7 @@ use Rattle.ll_journal.specs.Seated.{position_at, seat_of, turn_at}
 use Rattle.ll_journal.specs.Stations.{station_in, station_of}
 use Rattle.ll_journal.specs.Steps.{GoesDown}
 use Rattle.ll_journal.proofs.Ahead.{ended}
-use Rattle.ll_journal.proofs.Entering.{walk_here}
+use Rattle.ll_journal.proofs.RootDescents.{walk_here}
 use Rattle.ll_journal.proofs.Seats.{kept_in, split_fits, station_is, trunk_fits}
 
 -- ---- the directory below is what the next name stands for

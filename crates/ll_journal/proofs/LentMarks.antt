@@ -22,8 +22,8 @@ use Rattle.ll_journal.specs.Kept.{IsKept, world_of, book_of}
 use Rattle.ll_journal.specs.Checks.{Lies, lends, is_all_lent}
 use Rattle.ll_journal.specs.WalkEnds.{AreEnough, IsAstrayAtEnd, is_lent}
 use Rattle.ll_journal.proofs.LentSlots.{slot_holds, slot_inode}
-use Rattle.ll_journal.proofs.Entering.{walk_here}
-use Rattle.ll_journal.proofs.Descending.{living_one}
+use Rattle.ll_journal.proofs.RootDescents.{walk_here}
+use Rattle.ll_journal.proofs.Descents.{living_one}
 
 -- ---- over the slots
 

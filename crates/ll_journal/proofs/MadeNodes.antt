@@ -24,7 +24,7 @@ use Rattle.ll_seq.specs.Step.{step, refusals, first_or, client_of}
 use Rattle.ll_node.specs.InodeTable.{Table, IsTable}
 use Rattle.ll_node.proofs.SlotLists.{same_or_not}
 use Rattle.ll_laws.proofs.Gain.{done_of}
-use Rattle.ll_node.proofs.Living.{bytes_kind, bytes_next, let_go_next, make_kind, make_kind_other}
+use Rattle.ll_node.proofs.Survivors.{bytes_kind, bytes_next, let_go_next, make_kind, make_kind_other}
 use Rattle.ll_laws.specs.World.{has_any}
 use Rattle.ll_journal.specs.WalkEnds.{TakesName, would_make}
 

@@ -16,9 +16,9 @@ use Rattle.ll_journal.specs.declared.journal.Journal.TheInside.{Inside}
 use Rattle.ll_journal.specs.Book.{Seat, has_mark, inode_in, mark_of}
 use Rattle.ll_journal.specs.Kept.{IsKept, book_of, seat_at, walks_from, world_of}
 use Rattle.ll_journal.proofs.Begun.{walk_at}
-use Rattle.ll_journal.proofs.Descending.{living_placed}
+use Rattle.ll_journal.proofs.Descents.{living_placed}
 use Rattle.ll_journal.proofs.MarkOf.{are_clients, mark_is, mark_none}
-use Rattle.ll_journal.proofs.Overtaking.{stands_in}
+use Rattle.ll_journal.proofs.StaleWalks.{stands_in}
 use Rattle.ll_journal.proofs.StandingWalks.{is_placed}
 
 -- the walk of none of the first so many seats stands there

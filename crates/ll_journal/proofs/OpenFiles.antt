@@ -43,7 +43,7 @@ use Rattle.ll_laws.proofs.Unrefused.{inode_is, neither}
 use Rattle.ll_laws.proofs.Gain.{Passes, passes, done_of, there_is, kept_tree, start_tree}
 use Rattle.ll_laws.proofs.ClientChanges.{let_go_clients, with_bytes_clients}
 use Rattle.ll_laws.specs.World.{World, shown}
-use Rattle.ll_node.proofs.Living.{bytes_kind, let_go_kind, make_kind, make_kind_other}
+use Rattle.ll_node.proofs.Survivors.{bytes_kind, let_go_kind, make_kind, make_kind_other}
 
 -- each descriptor of the record is of a regular file
 abbrev pub AreFiles : State → ClientRecord → Type 0

@@ -40,7 +40,7 @@ use Rattle.ll_seq.specs.Effect.{CanOpen, Fits, Holds, after, told}
 use Rattle.ll_seq.specs.Found.{there_in}
 use Rattle.ll_seq.specs.Lean.{spares_memory}
 use Rattle.ll_seq.specs.Near.{AreNear, IsNear, changed_inodes, inode_at, nodes_of, opened_inode, told_inodes}
-use Rattle.ll_node.specs.Enacting.{Scene, InHand, Covers, Enacts, MayEnact}
+use Rattle.ll_node.specs.Enactment.{Scene, InHand, Covers, Enacts, MayEnact}
 use Rattle.ll_node.proofs.GivenSlots.{given_tree, held_there, kind_there, made_idle, some_there}
 use Rattle.ll_node.proofs.StayingSlots.{directory_some, named_some}
 use Rattle.ll_laws.specs.Walk.{is_in}

@@ -17,10 +17,10 @@ use Rattle.ll_journal.specs.Checks.{goes_on, check_descend, look_from, check_nex
 use Rattle.ll_journal.specs.Checks.{directory_below, directory_from, directory_for, directory_at}
 use Rattle.ll_journal.specs.Seated.{here_in, next_in}
 use Rattle.ll_journal.specs.Steps.{GoesDown, IsAstrayBelow, IsNext}
-use Rattle.ll_journal.proofs.Descending as To
-use Rattle.ll_journal.proofs.Descending.{down_astray, down_goes}
+use Rattle.ll_journal.proofs.Descents as To
+use Rattle.ll_journal.proofs.Descents.{down_astray, down_goes}
 use Rattle.ll_journal.proofs.LentAfter.{inode_is}
-use Rattle.ll_journal.proofs.Looking.{next_is, next_none}
+use Rattle.ll_journal.proofs.Looks.{next_is, next_none}
 
 -- ---- what is checked of the directory that a look finds
 

@@ -18,11 +18,11 @@ use Rattle.ll_journal.specs.Kept.{IsKept, book_of, seat_at, world_of}
 use Rattle.ll_journal.specs.Needs.{slots_in}
 use Rattle.ll_journal.specs.Seated.{here_in}
 use Rattle.ll_journal.specs.Steps.{IsInTurn, leg_in_turn}
-use Rattle.ll_journal.proofs.Descending.{living_placed, turn_stands}
-use Rattle.ll_journal.proofs.Entering.{no_walk, walk_here}
-use Rattle.ll_journal.proofs.Gathering.{Gathers, few_gathered, gathers_legs, gathers_same, none_gathered}
+use Rattle.ll_journal.proofs.Descents.{living_placed, turn_stands}
+use Rattle.ll_journal.proofs.RootDescents.{no_walk, walk_here}
+use Rattle.ll_journal.proofs.GatheredSlots.{Gathers, few_gathered, gathers_legs, gathers_same, none_gathered}
 use Rattle.ll_journal.proofs.LentAfter.{inode_is}
-use Rattle.ll_journal.proofs.Looking.{index_there}
+use Rattle.ll_journal.proofs.Looks.{index_there}
 
 -- what is found of an inode: the slot where it lies
 pub record IsPlaced (j : Inside) (inode : ℕ) (o : Option ℕ) : Type 0 where

@@ -39,10 +39,10 @@ use Rattle.ll_journal.specs.Checks.{Lies, StopsAtEnds, StopsBetween, found_at, g
 use Rattle.ll_journal.specs.Checks.{is_marked_there, lends, spot_at, check_there}
 use Rattle.ll_journal.specs.Seated.{is_at_ends, next_in, next_of}
 use Rattle.ll_journal.specs.Stopped.{IsEndOf, IsReachedEnd, IsStop}
-use Rattle.ll_journal.proofs.Advancing.{commit_not_now, may_commit_at_ends, may_commit_marked, may_commit_on_the_way}
+use Rattle.ll_journal.proofs.Advances.{commit_not_now, may_commit_at_ends, may_commit_marked, may_commit_on_the_way}
 use Rattle.ll_journal.proofs.AtEnds.{IsEnd, first_is_end, second_is_end}
-use Rattle.ll_journal.proofs.Descending.{living_one}
-use Rattle.ll_journal.proofs.Entering.{walk_here}
+use Rattle.ll_journal.proofs.Descents.{living_one}
+use Rattle.ll_journal.proofs.RootDescents.{walk_here}
 use Rattle.ll_journal.proofs.LastSpots.{IsThere, each_node, makes_there, marked_there, spot_last, there_last}
 use Rattle.ll_journal.proofs.LentMarks.{all_marked, lends_is, lies_held, misses_not}
 use Rattle.ll_journal.proofs.Ruled.{room_stays}

@@ -33,11 +33,11 @@ use Rattle.ll_journal.specs.Kept.{IsKept, world_of, book_of}
 use Rattle.ll_journal.specs.Checks.{Lies, StopsBefore, blocked_at, goes_on, is_all_lent, stop_by}
 use Rattle.ll_journal.specs.Seated.{here_in, next_in, next_of}
 use Rattle.ll_journal.specs.Stopped.{IsStop}
-use Rattle.ll_journal.proofs.Advancing.{commit_none, commit_not_now, may_commit_blocked, may_commit_on_the_way}
-use Rattle.ll_journal.proofs.Advancing.{may_commit_stale}
+use Rattle.ll_journal.proofs.Advances.{commit_none, commit_not_now, may_commit_blocked, may_commit_on_the_way}
+use Rattle.ll_journal.proofs.Advances.{may_commit_stale}
 use Rattle.ll_journal.proofs.AtEnds.{blocked_reply}
-use Rattle.ll_journal.proofs.Descending.{turn_stands}
-use Rattle.ll_journal.proofs.Entering.{walk_here}
+use Rattle.ll_journal.proofs.Descents.{turn_stands}
+use Rattle.ll_journal.proofs.RootDescents.{walk_here}
 use Rattle.ll_journal.proofs.LentMarks.{all_marked, leg_some, lies_held, misses_not}
 
 -- ---- without a walk that goes on

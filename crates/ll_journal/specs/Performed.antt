@@ -5,7 +5,7 @@ use Rattle.ll_seq.specs.Found.{AreFacts}
 use Rattle.ll_seq.specs.Near.{nodes_of, may_make}
 use Rattle.ll_seq.specs.Passed.{has_path}
 use Rattle.ll_seq.specs.declared.found.Found.{Found}
-use Rattle.ll_node.specs.Enacting.{Scene, InHand, IsGiven, IsMade, in_hand}
+use Rattle.ll_node.specs.Enactment.{Scene, InHand, IsGiven, IsMade, in_hand}
 use Rattle.ll_decide.specs.Masks.{AreMasks}
 use Rattle.ll_node.specs.declared.held.Held.{Held}
 use Rattle.ll_node.specs.InodeTable.{Table}

@@ -16,11 +16,11 @@ ghost use Rattle.ll_journal.specs.Kept.{walks_from};
 ghost use Rattle.ll_journal.specs.Checks as checks;
 ghost use Rattle.ll_journal.specs.CommitCheck.{check_of};
 
-use crate::ending::is_marked_by_other;
+use crate::aftermath::is_marked_by_other;
 use crate::find_ends::{blocked, find_end, find_ends};
 use crate::seat::Seat;
-use crate::standing::{is_in, is_lent};
 use crate::way::has_two_paths;
+use crate::whereabouts::{is_in, is_lent};
 use ll_node::{Held, Inodes, find};
 use ll_path::Target;
 use ll_rights::Errno;

@@ -4,9 +4,9 @@ ghost use Rattle.std.specs.Prelude.{◌≡◌, ◌≢◌, ◌<◌, ℕ, List, su
 ghost use Rattle.ll_rights.specs.Map.{get};
 ghost use Rattle.ll_laws.specs.Walk as walks;
 
+use crate::aftermath::released;
 use crate::check_commit::{NOTHING, Sight, Stop, check_commit};
 use crate::decide_end::{moved_by, overtake_moved};
-use crate::ending::released;
 use crate::journal::{Journal, place_of};
 use crate::progress::Ending;
 use crate::seat::Ended;

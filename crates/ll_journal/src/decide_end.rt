@@ -27,7 +27,7 @@ ghost use Rattle.ll_laws.specs.World as world;
 ghost use Rattle.ll_journal.specs.Book as book;
 ghost use Rattle.ll_journal.specs.Performed.{HasContent, IsEndAt, Lends, moved_list};
 
-use crate::ending::overtake;
+use crate::aftermath::overtake;
 use crate::seat::{Ended, Seat};
 use ll_decide::{Granted, Masks};
 use ll_node::{Held, Inodes, find};

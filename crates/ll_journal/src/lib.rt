@@ -1,13 +1,13 @@
 //! The journal of a shared tree: each step of a walk is a method.
 #![tactic(auto)]
 
+mod aftermath;
 mod alone;
 mod check_commit;
 mod check_step;
 mod commit;
 mod decide_end;
 mod direct;
-mod ending;
 mod files;
 mod find_ends;
 mod in_way;
@@ -24,12 +24,12 @@ mod progress;
 mod seat;
 mod slots;
 mod stage;
-mod standing;
 mod start;
 mod station;
 mod view;
 mod walked;
 mod way;
+mod whereabouts;
 
 pub use direct::Made;
 pub use journal::Journal;

@@ -13,7 +13,7 @@ ghost use Rattle.ll_laws.specs.Walk as walks;
 ghost use Rattle.ll_laws.specs.World.{is_alone, is_walked, overtaken};
 ghost use Rattle.ll_journal.specs.Seated.{none_left};
 ghost use Rattle.ll_journal.specs.Stations.{station_of};
-ghost use Rattle.ll_node.specs.Enacting.{Scene};
+ghost use Rattle.ll_node.specs.Enactment.{Scene};
 ghost use Rattle.ll_journal.specs.Performed.{EndsAs, IsAtEnd, IsFreeAtEnd, Performs, at_seat};
 
 use crate::alone::{Own, RecordCall, answer, own_call};

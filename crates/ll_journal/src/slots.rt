@@ -3,7 +3,7 @@
 ghost use Rattle.std.specs.Prelude.{◌≡◌, ℕ, ◌+◌, ◌<◌, ◌≤◌, List, [], length, take};
 ghost use Rattle.ll_journal.specs.Needs.{with_slot, with_slot_of};
 
-use crate::standing::is_in;
+use crate::whereabouts::is_in;
 use ll_node::Inodes;
 use std::marker::Model;
 

@@ -7,7 +7,7 @@ ghost use Rattle.ll_seq.specs.State.{kind_of};
 ghost use Rattle.ll_laws.specs.Walk.{Walk};
 ghost use Rattle.ll_laws.specs.World.{shown};
 
-use crate::ending::marker;
+use crate::aftermath::marker;
 use crate::journal::{Journal, place_of};
 use crate::position::Position;
 use ll_seq::{Call, ClientRecord};

@@ -16,13 +16,13 @@ use Rattle.ll_seq.specs.History.{IsLegal}
 use Rattle.ll_laws.specs.NoGain.{GainsNothing}
 use Rattle.ll_laws.specs.Withheld.{Withholds}
 use Rattle.ll_laws.proofs.Gain.{no_gain}
-use Rattle.ll_laws.proofs.Withholding.{bytes_are_withheld}
+use Rattle.ll_laws.proofs.WithheldBytes.{bytes_are_withheld}
 use Rattle.ll_laws.specs.Walk.{Walk}
 use Rattle.ll_laws.specs.World.{World, advance, new_world, world_after, is_full, next_number, reply_to}
 use Rattle.ll_laws.specs.declared.step.Step.{Step}
 use Rattle.ll_laws.specs.Sound.{StepsLeadOn}
 use Rattle.ll_laws.specs.Walks.{HistoryIsLegal}
-use Rattle.ll_laws.specs.Growing.{Came, HistoryGrows, IsLater, OfBoth}
+use Rattle.ll_laws.specs.Growth.{Came, HistoryGrows, IsLater, OfBoth}
 use Rattle.ll_laws.proofs.Turns.{Keeps, steps_kept}
 use Rattle.ll_laws.proofs.Worlds.{still_hold, all_hold}
 

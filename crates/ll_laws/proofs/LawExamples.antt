@@ -39,7 +39,7 @@ use Rattle.ll_seq.proofs.Parted.{or_left, or_right}
 use Rattle.ll_laws.proofs.Chains.{same_Some}
 use Rattle.ll_laws.proofs.Gain.{done_of, start_tree, after_tree, kept_tree, one_entry, named_below, no_gain}
 use Rattle.ll_laws.proofs.Trees.{IsTree}
-use Rattle.ll_laws.proofs.Withholding.{no_refusal, entry_clients, bytes_are_withheld}
+use Rattle.ll_laws.proofs.WithheldBytes.{no_refusal, entry_clients, bytes_are_withheld}
 
 abbrev path : List ℕ → Target
 path text = Good (path_of_text text)

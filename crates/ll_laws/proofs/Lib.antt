@@ -24,5 +24,5 @@ pub mod Undisturbed
 pub mod Unrefused
 pub mod WalkMaps
 pub mod Ways
-pub mod Withholding
+pub mod WithheldBytes
 pub mod Worlds

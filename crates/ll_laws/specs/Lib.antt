@@ -1,5 +1,5 @@
 pub mod Commits
-pub mod Growing
+pub mod Growth
 pub mod NoGain
 pub mod Sound
 pub mod Walk

@@ -7,7 +7,7 @@ use Rattle.ll_seq.specs.declared.rules.Rules.{Rules}
 use Rattle.ll_seq.specs.State.{Name, State, child, kind_of, root, start}
 use Rattle.ll_seq.specs.History.{IsLegal, state_after}
 use Rattle.ll_laws.specs.declared.step.Step.{Step}
-use Rattle.ll_laws.specs.Growing.{IsLater}
+use Rattle.ll_laws.specs.Growth.{IsLater}
 use Rattle.ll_laws.specs.Walk.{Walk, marks, is_above}
 use Rattle.ll_laws.specs.World.{World, advance, new_world, shown, without_walk}
 use Rattle.ll_laws.specs.Walks.{OfWalks, AreValid, AreApart, AreFew, GateIsHeld}

@@ -3,7 +3,7 @@
 ghost use Rattle.ll_laws.specs.Commits.{BlockedAreRefused, EndsAreReached};
 ghost use Rattle.ll_laws.specs.NoGain.{GainsNothing};
 ghost use Rattle.ll_laws.specs.Withheld.{Withholds};
-ghost use Rattle.ll_laws.specs.Growing.{HistoryGrows, OfBoth};
+ghost use Rattle.ll_laws.specs.Growth.{HistoryGrows, OfBoth};
 ghost use Rattle.ll_laws.specs.Sound.{EndsKeepSound, NewAreSound, SoundAreLegal, StepsKeepSound, StepsLeadOn};
 ghost use Rattle.ll_laws.specs.Walks.{AfterSteps, AreApart, AreFew, AreValid, GateIsHeld, HistoryIsLegal};
 

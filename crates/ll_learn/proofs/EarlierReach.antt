@@ -27,7 +27,7 @@ use Rattle.ll_laws.proofs.Gain.{done_of, kept_tree, one_entry}
 use Rattle.ll_laws.proofs.Trees.{IsTree}
 use Rattle.ll_laws.proofs.Undisturbed.{done_kinds}
 use Rattle.ll_learn.specs.Bound.{MovesAreTheirs}
-use Rattle.ll_learn.specs.Passing.{IsOpen, Openings, joins, opened_at}
+use Rattle.ll_learn.specs.PassedCalls.{IsOpen, Openings, joins, opened_at}
 use Rattle.ll_learn.proofs.SameReplies.{Follows}
 use Rattle.ll_learn.proofs.TwinSteps.{caller_layered, entry_goes, standing_undenied}
 use Rattle.ll_learn.proofs.Twins.{Twins, with_all}

@@ -19,7 +19,7 @@ use Rattle.ll_seq.proofs.Consequences.{step-next}
 use Rattle.ll_seq.proofs.Histories.{after_push, legal_append}
 use Rattle.ll_audit.specs.Audit.{IsFirstIllegal}
 use Rattle.ll_audit.proofs.Follows as audit
-use Rattle.ll_why.specs.Opening.{is_spawned}
+use Rattle.ll_why.specs.Opener.{is_spawned}
 use Rattle.ll_learn.specs.declared.fault.LearnFault.{LearnFault}
 use Rattle.ll_learn.specs.declared.fault.LearnFault.TheVariants as fault
 use Rattle.ll_learn.specs.declared.needs.Needs.{Needs}
@@ -29,12 +29,12 @@ use Rattle.ll_learn.specs.Demand.{GoesOn, IsOpenAt, StopsAt}
 use Rattle.ll_learn.specs.Faults.{HasCome, IsFault, IsFirstFull}
 use Rattle.ll_learn.specs.Needs.{Adds, AreRooted}
 use Rattle.ll_learn.specs.Outside.{first_outside, outside_of}
-use Rattle.ll_learn.specs.Passing.{Allows, AllowsAll, IsOpen, Openings, is_client, joins}
-use Rattle.ll_learn.specs.Passing.{none_known, opened_at}
+use Rattle.ll_learn.specs.PassedCalls.{Allows, AllowsAll, IsOpen, Openings, is_client, joins}
+use Rattle.ll_learn.specs.PassedCalls.{none_known, opened_at}
 use Rattle.ll_learn.specs.Bound.{WereThere}
 use Rattle.ll_learn.specs.There.{ComeFrom, IsAskedIn, IsOfPath, MovesMore}
 use Rattle.ll_learn.specs.Watched.{is_watched}
-use Rattle.ll_learn.specs.Watching.{IsWatch, joined, opened_behind}
+use Rattle.ll_learn.specs.WatchedClients.{IsWatch, joined, opened_behind}
 
 -- ---- one entry more
 

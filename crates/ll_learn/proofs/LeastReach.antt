@@ -27,7 +27,7 @@ use Rattle.ll_learn.specs.Bound.{AllowsEach, BeginAt, IsHoldable, ChargedIsLeast
 use Rattle.ll_learn.specs.Bound.{MovesAreTheirs, NeedIsReached, Part, PassesEach, ReachesNoMore, RestrictsNoMore}
 use Rattle.ll_learn.specs.Bound.{WereThere}
 use Rattle.ll_learn.specs.Charges.{WereInOne}
-use Rattle.ll_learn.specs.Passing.{IsOpen, Passes, is_client, none_known}
+use Rattle.ll_learn.specs.PassedCalls.{IsOpen, Passes, is_client, none_known}
 use Rattle.ll_learn.proofs.EarlierReach.{Earlier, earlier, named_kind, chain_prefix, reach_then}
 use Rattle.ll_learn.proofs.SameReplies.{first_twins, same_replies}
 

@@ -20,10 +20,10 @@ pub mod Places
 pub mod Spreads
 pub mod MendedReach
 pub mod Solutions
-pub mod Asking
+pub mod AskedGrants
 pub mod Gathered
 pub mod Given
-pub mod Needing
+pub mod MoreNeeds
 pub mod Openings
 pub mod Positions
 pub mod There
@@ -32,8 +32,8 @@ pub mod DraftReach
 pub mod OutsideMoves
 pub mod Cuts
 pub mod ManyParts
-pub mod Framing
+pub mod Frames
 pub mod Undeniable
-pub mod Unlearning
+pub mod Hindrances
 pub mod Connected
 pub mod SavedLessons

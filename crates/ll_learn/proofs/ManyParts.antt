@@ -21,9 +21,9 @@ use Rattle.ll_learn.specs.Charges.{WereInOne}
 use Rattle.ll_learn.specs.Learned.{BeginsSo, part_behind}
 use Rattle.ll_learn.specs.Needs.{AreRooted, Meets}
 use Rattle.ll_learn.specs.Gathered.{AreNeedsOfAll}
-use Rattle.ll_learn.specs.Opening.{AreGathered, Gathers}
+use Rattle.ll_learn.specs.Preface.{AreGathered, Gathers}
 use Rattle.ll_learn.specs.Outside.{first_outside}
-use Rattle.ll_learn.specs.Passing.{AllowsRun, IsLearnable, is_client}
+use Rattle.ll_learn.specs.PassedCalls.{AllowsRun, IsLearnable, is_client}
 use Rattle.ll_learn.proofs.OutsideMoves.{both_are, moves_are_theirs, none_is_outside}
 
 -- no part needs anything

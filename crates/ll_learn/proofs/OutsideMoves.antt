@@ -11,7 +11,7 @@ use Rattle.ll_learn.specs.declared.needs.Origin.{Origin}
 use Rattle.ll_learn.specs.Bound.{MovesAreTheirs}
 use Rattle.ll_learn.specs.Charges.{OutsideIsNone}
 use Rattle.ll_learn.specs.Outside.{first_outside, is_done, outside_of}
-use Rattle.ll_learn.specs.Passing.{joins}
+use Rattle.ll_learn.specs.PassedCalls.{joins}
 
 both_none : (o p : Option Origin) → option_or o p ≡ None → (o ≡ None) × (p ≡ None)
 both_none None p e = (refl, e)

@@ -26,10 +26,10 @@ use Rattle.ll_seq.specs.declared.reply.Entry.{Entry}
 use Rattle.ll_seq.proofs.Histories.{after_push}
 use Rattle.ll_seq.proofs.Parted.{or_split}
 use Rattle.ll_laws.proofs.Unrefused.{IsIn, IsIn-contains, nil_left, nil_right, none_denied, none_passes}
-use Rattle.ll_why.specs.Opening.{opens}
+use Rattle.ll_why.specs.Opener.{opens}
 use Rattle.ll_why.specs.Reasons.{kept_number}
 use Rattle.ll_learn.specs.Bound.{AsksAreRequired, TruncateIsRequired, WereThere, joined_all, opened_all}
-use Rattle.ll_learn.specs.Passing.{Allows, AllowsAll, Openings, is_client, joins, none_known, opened_at}
+use Rattle.ll_learn.specs.PassedCalls.{Allows, AllowsAll, Openings, is_client, joins, none_known, opened_at}
 
 -- ---- where nothing is denied, what is asked is granted
 

@@ -16,8 +16,8 @@ use Rattle.ll_seq.specs.Step.{client_of}
 use Rattle.ll_seq.specs.declared.client.ClientRecord.{ClientRecord}
 use Rattle.ll_seq.specs.declared.client.Descriptor.{Descriptor}
 use Rattle.ll_seq.specs.declared.reply.Entry.{Entry}
-use Rattle.ll_learn.specs.Passing.{AllowsAll, IsOpen, Openings, SameReplies, is_client, joins, none_known}
-use Rattle.ll_learn.specs.Passing.{opened_at}
+use Rattle.ll_learn.specs.PassedCalls.{AllowsAll, IsOpen, Openings, SameReplies, is_client, joins, none_known}
+use Rattle.ll_learn.specs.PassedCalls.{opened_at}
 use Rattle.ll_learn.proofs.TwinEffects.{Follow}
 use Rattle.ll_learn.proofs.TwinPolicy.{allowed, allowing}
 use Rattle.ll_learn.proofs.TwinSteps.{caller_layered, entry_goes, standing_undenied, stands_there, undenied}

@@ -9,11 +9,11 @@ use Rattle.ll_seq.specs.Call.{first_path}
 use Rattle.ll_seq.specs.History.{state_after}
 use Rattle.ll_seq.specs.State.{State}
 use Rattle.ll_seq.specs.Tree.{ancestors}
-use Rattle.ll_why.specs.Opening.{is_spawned, opens}
+use Rattle.ll_why.specs.Opener.{is_spawned, opens}
 use Rattle.ll_learn.specs.declared.needs.Asked.{Asked}
 use Rattle.ll_learn.specs.declared.needs.Moved.{Moved}
 use Rattle.ll_learn.specs.declared.needs.Needs.{Needs}
-use Rattle.ll_learn.specs.Passing.{Openings, opened_at}
+use Rattle.ll_learn.specs.PassedCalls.{Openings, opened_at}
 use Rattle.ll_learn.specs.Bound.{WereThere}
 use Rattle.ll_learn.specs.There.{AsksMore, IsAskedIn, IsAskedOn, MovesMore}
 use Rattle.ll_learn.specs.Watched.{is_watched, paths_opened}

@@ -38,8 +38,8 @@ use Rattle.ll_seq.specs.Stages.{lowest_free, ruleset_at}
 use Rattle.ll_seq.specs.State.{State, bytes_of, is_open, new_client, root, name_count}
 use Rattle.ll_seq.specs.Tree.{ancestors, inode_of, named}
 use Rattle.ll_laws.proofs.ClientChanges.{let_go_clients, renamed_clients, with_bytes_clients}
-use Rattle.ll_why.specs.Opening.{is_opened, is_spawned, target_opened}
-use Rattle.ll_learn.specs.Passing.{Openings, joins, opened_at}
+use Rattle.ll_why.specs.Opener.{is_opened, is_spawned, target_opened}
+use Rattle.ll_learn.specs.PassedCalls.{Openings, joins, opened_at}
 use Rattle.ll_learn.proofs.AlikeRecords.{inode_same, lowest_same, ruleset_same}
 use Rattle.ll_learn.proofs.Twins.{Both, Files, IsFile, IsLayered, Twin, Twins, allows, kept_more, same_open, twin_alike}
 use Rattle.ll_learn.proofs.Twins.{equal_keys, twins_again, twins_insert, unequal, with_all}

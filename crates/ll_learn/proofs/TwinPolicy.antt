@@ -25,7 +25,7 @@ use Rattle.ll_seq.specs.declared.client.Descriptor.{Descriptor}
 use Rattle.ll_seq.specs.declared.reply.Reply.{Reply}
 use Rattle.ll_laws.proofs.ClientChanges.{described}
 use Rattle.ll_laws.proofs.Unrefused.{nil_left, nil_right}
-use Rattle.ll_learn.specs.Passing.{Allows, Openings}
+use Rattle.ll_learn.specs.PassedCalls.{Allows, Openings}
 use Rattle.ll_learn.proofs.OneLayer.{more_allow, one_allows}
 use Rattle.ll_learn.proofs.TwinEffects.{entry}
 use Rattle.ll_learn.proofs.Twins.{Both, IsFile, IsLayered, allows, with_all}

@@ -31,7 +31,7 @@ use Rattle.ll_seq.specs.declared.reply.Entry.{Entry}
 use Rattle.ll_seq.specs.declared.reply.Reply.{Reply}
 use Rattle.ll_seq.specs.declared.reply.Reply.TheVariants.{Denied, Refused, Spawned}
 use Rattle.ll_seq.proofs.StepParts.{comes_to, denied, does_so, none_refused, refused_early, refused_late}
-use Rattle.ll_learn.specs.Passing.{Openings, joins, opened_at}
+use Rattle.ll_learn.specs.PassedCalls.{Openings, joins, opened_at}
 use Rattle.ll_learn.proofs.AlikeRecords.{AreAlike}
 use Rattle.ll_learn.proofs.TwinEffects.{Follow, done_goes, entry, stays}
 use Rattle.ll_learn.proofs.TwinPolicy.{denied_same}

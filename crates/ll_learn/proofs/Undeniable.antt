@@ -13,12 +13,12 @@ use Rattle.ll_why.specs.Reasons.{AreAsked, kept_number}
 use Rattle.ll_why.specs.declared.asks.Asks.{Asks}
 use Rattle.ll_learn.specs.declared.needs.Needs.{Needs}
 use Rattle.ll_learn.specs.declared.undenied.Trial.{Trial}
-use Rattle.ll_learn.specs.Asking.{AllowsAsked}
+use Rattle.ll_learn.specs.Asks.{AllowsAsked}
 use Rattle.ll_learn.specs.Learned.{part_behind}
 use Rattle.ll_learn.specs.Needs.{Meets}
-use Rattle.ll_learn.specs.Opening.{AreGathered}
+use Rattle.ll_learn.specs.Preface.{AreGathered}
 use Rattle.ll_learn.specs.Undeniable.{IsUndeniable}
-use Rattle.ll_learn.proofs.Asking.{allowed_is}
+use Rattle.ll_learn.proofs.AskedGrants.{allowed_is}
 use Rattle.ll_learn.proofs.SameReplies.{same_replies}
 
 -- ---- a path with all inodes of another

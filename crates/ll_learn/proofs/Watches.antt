@@ -12,13 +12,13 @@ use Rattle.ll_seq.specs.History.{MayStand, after, fresh_of}
 use Rattle.ll_seq.specs.State.{State}
 use Rattle.ll_seq.specs.Tree.{ancestors}
 use Rattle.ll_seq.proofs.Consequences.{step-clients_stay, step-spawned}
-use Rattle.ll_why.specs.Opening.{is_opened, is_spawned, opens}
+use Rattle.ll_why.specs.Opener.{is_opened, is_spawned, opens}
 use Rattle.ll_learn.specs.declared.watch.Opened as opening
 use Rattle.ll_learn.specs.declared.watch.Watched.{Watched}
 use Rattle.ll_learn.specs.Needs.{StartsAtRoot}
-use Rattle.ll_learn.specs.Passing.{Openings, is_client, joins, none_known, opened_at}
+use Rattle.ll_learn.specs.PassedCalls.{Openings, is_client, joins, none_known, opened_at}
 use Rattle.ll_learn.specs.Watched.{Joins, is_watched, paths_opened, with_opening}
-use Rattle.ll_learn.specs.Watching.{IsWatch, Opens}
+use Rattle.ll_learn.specs.WatchedClients.{IsWatch, Opens}
 
 pub from_root : (s : State) (path : Path) → StartsAtRoot (ancestors s path)
 from_root s [] = ([], refl)

@@ -17,10 +17,10 @@ use Rattle.ll_learn.specs.declared.needs.Origin.{Origin}
 use Rattle.ll_learn.specs.declared.watch.Watched.{Watched}
 use Rattle.ll_learn.specs.Needs.{AreRooted, Meets}
 use Rattle.ll_learn.specs.Outside.{outside_of}
-use Rattle.ll_learn.specs.Passing.{Allows, Openings, joins, opened_at}
+use Rattle.ll_learn.specs.PassedCalls.{Allows, Openings, joins, opened_at}
 use Rattle.ll_learn.specs.There.{AsksMore, IsAskedIn, IsOfPath, MovesMore}
 use Rattle.ll_learn.specs.Watched.{is_watched}
-use Rattle.ll_learn.specs.Watching.{IsWatch}
+use Rattle.ll_learn.specs.WatchedClients.{IsWatch}
 
 -- the call isn't denied, and after it its client has room for one more layer
 abbrev pub IsOpenAt : State → Entry → Type 0

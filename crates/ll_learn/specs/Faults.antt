@@ -11,8 +11,8 @@ use Rattle.ll_seq.specs.Step.{client_of}
 use Rattle.ll_audit.specs.Audit.{IsFirstIllegal}
 use Rattle.ll_learn.specs.declared.fault.LearnFault.{LearnFault}
 use Rattle.ll_learn.specs.declared.fault.LearnFault.TheVariants as fault
-use Rattle.ll_learn.specs.Passing.{IsOpen, is_client}
-use Rattle.ll_learn.specs.Watching.{joined}
+use Rattle.ll_learn.specs.PassedCalls.{IsOpen, is_client}
+use Rattle.ll_learn.specs.WatchedClients.{joined}
 
 -- this many entries are legal, and before the last of them nothing is denied and there is room
 pub record HasCome (s : State) (client : ℕ) (es : List Entry) (number : ℕ) : Type 0 where

@@ -7,7 +7,7 @@ use Rattle.ll_learn.specs.Bound.{AllowsEach, MovesAreTheirs, Part}
 use Rattle.ll_learn.specs.Charges.{WereInOne}
 use Rattle.ll_learn.specs.Mended.{AreMovesOf}
 use Rattle.ll_learn.specs.Needs.{AreRooted, Meets}
-use Rattle.ll_learn.specs.Passing.{IsLearnable, is_client}
+use Rattle.ll_learn.specs.PassedCalls.{IsLearnable, is_client}
 
 -- the needs of these parts
 pub record AreNeedsOfAll (parts : List Part) (needs : Needs) : Type 0 where

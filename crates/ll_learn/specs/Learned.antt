@@ -23,7 +23,7 @@ use Rattle.ll_learn.specs.Faults.{IsFirstDenied, IsFirstFull}
 use Rattle.ll_learn.specs.Gathered.{AreNeedsOfAll}
 use Rattle.ll_learn.specs.Least.{AreNeeded}
 use Rattle.ll_learn.specs.Lesson.{AreNamed, AreRulesOf, IsCalledLeast, IsOfProfile, gives}
-use Rattle.ll_learn.specs.Passing.{IsLearnable}
+use Rattle.ll_learn.specs.PassedCalls.{IsLearnable}
 use Rattle.ll_learn.specs.Sites.{IsLayerOf}
 
 -- ---- Where histories are cut

@@ -7,7 +7,7 @@ use Rattle.ll_seq.specs.State.{State, root}
 use Rattle.ll_learn.specs.declared.needs.Asked.{Asked}
 use Rattle.ll_learn.specs.declared.needs.Moved.{Moved}
 use Rattle.ll_learn.specs.declared.needs.Needs.{Needs}
-use Rattle.ll_learn.specs.Passing.{AllowsRun}
+use Rattle.ll_learn.specs.PassedCalls.{AllowsRun}
 
 -- these rights are granted on a path with these inodes. grants: what a layer grants there
 abbrev pub GrantsAll : (List ℕ → ℕ → Bool) → ℕ → List ℕ → Type 0

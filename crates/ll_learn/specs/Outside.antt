@@ -7,7 +7,7 @@ use Rattle.ll_seq.specs.declared.reply.Reply.{Reply}
 use Rattle.ll_seq.specs.declared.reply.Reply.TheVariants.{Done}
 use Rattle.ll_laws.specs.NoGain.{is_move}
 use Rattle.ll_learn.specs.declared.needs.Origin.{Origin}
-use Rattle.ll_learn.specs.Passing.{joins}
+use Rattle.ll_learn.specs.PassedCalls.{joins}
 
 abbrev pub is_done : Reply → Bool
 is_done Done = true

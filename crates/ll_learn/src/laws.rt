@@ -3,7 +3,7 @@
 ghost use Rattle.ll_learn.specs.Bound.{AsksAreRequired, ChargedIsLeast, NeedIsReached, TruncateIsRequired};
 ghost use Rattle.ll_learn.specs.Charges.{DraftIsLeast, OutsideIsNone};
 ghost use Rattle.ll_learn.specs.Mended.{MendedIsLeast};
-ghost use Rattle.ll_learn.specs.Passing.{SameReplies};
+ghost use Rattle.ll_learn.specs.PassedCalls.{SameReplies};
 
 /// A layer allows each call of the clients that it is on exactly if the history has the same replies with the layer on
 /// the client.

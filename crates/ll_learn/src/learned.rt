@@ -16,7 +16,7 @@ use crate::draft::Scope;
 use crate::fault::Unlearned;
 use crate::lesson::profile_of;
 use crate::needs::{Needs, Origin};
-use crate::opening::{Opening, cut_of};
+use crate::preface::{Opening, cut_of};
 use crate::profile::LearnedProfile;
 use crate::site::{Sites, end_of};
 use crate::site_chains::SiteChains;

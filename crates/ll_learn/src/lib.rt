@@ -11,7 +11,7 @@ mod learned;
 mod lesson;
 mod made;
 mod needs;
-mod opening;
+mod preface;
 mod profile;
 mod right_column;
 mod rules;
@@ -32,7 +32,7 @@ pub use laws::{
 pub use learned::{Aim, learn};
 pub use made::{Made, made_rights};
 pub use needs::{Asked, Moved, Needs, Origin};
-pub use opening::cut_of;
+pub use preface::cut_of;
 pub use profile::{LearnedProfile, LearnedRule, Notes};
 pub use saved_lesson::{Learned, SavedLesson};
 pub use site::{Site, Sites};

@@ -5,7 +5,7 @@ ghost use Rattle.ll_rights.specs.declared.limits.TheConstants.{TREE_NODES};
 
 use crate::draft::Draft;
 use crate::needs::{Asked, Needs};
-use crate::opening::{Opening, cut_of};
+use crate::preface::{Opening, cut_of};
 use crate::profile::{LearnedProfile, LearnedRule};
 use crate::right_column::is_granted_without;
 use crate::site::Sites;

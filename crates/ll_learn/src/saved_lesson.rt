@@ -9,7 +9,7 @@ ghost use Rattle.ll_learn.specs.SavedLesson.{entry_note, line_in, reason, words_
 use crate::fault::Unlearned;
 use crate::learned::{Aim, learn};
 use crate::needs::Origin;
-use crate::opening::cut_of;
+use crate::preface::cut_of;
 use crate::profile::{LearnedProfile, Notes, concat};
 use ll_audit::{ReadFault, Saved};
 use ll_path::Path;

@@ -7,14 +7,14 @@ ghost use Rattle.ll_rights.specs.declared.limits.TheConstants.{TREE_NODES};
 ghost use Rattle.ll_rules.specs.Layer.{Layer, grants_on};
 ghost use Rattle.ll_audit.specs.Saved.{opened};
 ghost use Rattle.ll_why.specs.Reasons.{AreAsked, kept_number};
-ghost use Rattle.ll_learn.specs.Asking.{AllowsAsked};
+ghost use Rattle.ll_learn.specs.Asks.{AllowsAsked};
 ghost use Rattle.ll_learn.specs.Needs.{GivesNone, GrantsAll, Meets};
 ghost use Rattle.ll_learn.specs.Undeniable.{IsUndeniable};
 
 use crate::demand::found_for;
 use crate::draft::{Draft, Need, is_among};
 use crate::needs::{Asked, Needs, Origin};
-use crate::opening::{Opening, cut_of};
+use crate::preface::{Opening, cut_of};
 use crate::profile::LearnedProfile;
 use crate::solution::need_of;
 use ll_plain::Plain;

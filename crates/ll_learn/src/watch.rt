@@ -5,12 +5,12 @@ ghost use Rattle.std.specs.Prelude.{length};
 ghost use Rattle.std.specs.Prelude.{None, Some, find, option_map, if◌then◌else◌};
 ghost use Rattle.ll_seq.specs.History.{MayStand, after};
 ghost use Rattle.ll_seq.specs.State.{State};
-ghost use Rattle.ll_why.specs.Opening.{is_spawned};
-ghost use Rattle.ll_learn.specs.Passing.{Openings, joins, opened_at};
+ghost use Rattle.ll_why.specs.Opener.{is_spawned};
+ghost use Rattle.ll_learn.specs.PassedCalls.{Openings, joins, opened_at};
 ghost use Rattle.ll_learn.specs.Watched.{IsAt, Joins, is_client_of, is_descriptor, is_watched, path_opened};
 ghost use Rattle.ll_learn.specs.Watched.{paths_opened};
 ghost use Rattle.ll_learn.specs.Watched.{with_opening};
-ghost use Rattle.ll_learn.specs.Watching.{IsWatch, Opens};
+ghost use Rattle.ll_learn.specs.WatchedClients.{IsWatch, Opens};
 
 use crate::needs::copy_of;
 use ll_seq::{Entry, Reply};

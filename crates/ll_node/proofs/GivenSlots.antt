@@ -23,7 +23,7 @@ use Rattle.ll_node.specs.Lent.{vacant}
 use Rattle.ll_node.specs.InodeTable.{Table, IsTable, NotIn, without_inode}
 use Rattle.ll_node.proofs.SlotLists.{left_there}
 use Rattle.ll_node.specs.Accounts.{account, accounts}
-use Rattle.ll_node.specs.Enacting.{Scene, InHand, IsReached, IsGiven, IsMade, GivesBack, KeepsSlots, in_hand}
+use Rattle.ll_node.specs.Enactment.{Scene, InHand, IsReached, IsGiven, IsMade, GivesBack, KeepsSlots, in_hand}
 use Rattle.ll_node.proofs.Accounted.{inode_at, got, account_held, account_vacant, account_inode, told_by, not_here}
 use Rattle.ll_node.proofs.Accounted.{all_lent}
 use Rattle.ll_node.proofs.SlotAccounts.{content_of}

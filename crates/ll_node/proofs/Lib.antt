@@ -4,7 +4,6 @@ pub mod EachSlot
 pub mod FirstPlace
 pub mod GivenSlots
 pub mod InSlots
-pub mod Living
 pub mod LivingNodes
 pub mod MadeSlots
 pub mod MovedSlots
@@ -23,5 +22,6 @@ pub mod SlotAccounts
 pub mod SlotLists
 pub mod SlotNames
 pub mod StayingSlots
+pub mod Survivors
 pub mod TableSteps
 pub mod TakenSlots

@@ -30,13 +30,13 @@ use Rattle.ll_node.proofs.InSlots.{named_here, named_elsewhere}
 use Rattle.ll_node.specs.InodeTable.{Table, IsTable, AreDistinct, NotIn, IsVacant}
 use Rattle.ll_node.proofs.SlotLists.{same_or_not, set_same}
 use Rattle.ll_node.specs.Accounts.{account, accounts, names_map}
-use Rattle.ll_node.specs.Enacting.{Scene, InHand, IsGiven, Covers, IsMade, in_hand}
+use Rattle.ll_node.specs.Enactment.{Scene, InHand, IsGiven, Covers, IsMade, in_hand}
 use Rattle.ll_node.proofs.GivenSlots.{client_stays, given_tree, kind_there}
 use Rattle.ll_node.proofs.NamedSlots.{Takes, takes_name}
 use Rattle.ll_node.proofs.StayingSlots.{directory_some, of_lent}
 use Rattle.ll_node.proofs.Accounted.{inode_at, got, account_held, account_inode, account_kept, not_here}
 use Rattle.ll_node.proofs.ChangedSlots.{made_in, made_new}
-use Rattle.ll_node.proofs.Living.{make_kind}
+use Rattle.ll_node.proofs.Survivors.{make_kind}
 use Rattle.ll_node.proofs.NameMaps.{same_names, get-names_map}
 use Rattle.ll_node.proofs.SlotAccounts.{content_of, make_other}
 

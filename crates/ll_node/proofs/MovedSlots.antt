@@ -28,7 +28,7 @@ use Rattle.ll_node.proofs.InSlots.{named_elsewhere}
 use Rattle.ll_node.specs.InodeTable.{Table, IsTable}
 use Rattle.ll_node.proofs.TableSteps.{still_table}
 use Rattle.ll_node.specs.Accounts.{accounts, names_map}
-use Rattle.ll_node.specs.Enacting.{Scene, InHand, IsGiven, IsMade, Covers, MayEnact, in_hand}
+use Rattle.ll_node.specs.Enactment.{Scene, InHand, IsGiven, IsMade, Covers, MayEnact, in_hand}
 use Rattle.ll_node.proofs.NameMaps.{get-names_map, names_taken, names_taken_other}
 use Rattle.ll_node.proofs.SlotAccounts.{content_of, with_names, same_content}
 use Rattle.ll_node.proofs.TakenSlots.{at_same, at_other, same_held}

@@ -23,7 +23,7 @@ use Rattle.ll_node.specs.Lent.{named_in, AreApart}
 use Rattle.ll_node.proofs.InSlots.{named_here, named_elsewhere}
 use Rattle.ll_node.specs.InodeTable.{Table, IsTable}
 use Rattle.ll_node.specs.Accounts.{names_map}
-use Rattle.ll_node.specs.Enacting.{Scene, InHand, IsGiven, IsMade, Covers, MayEnact, in_hand}
+use Rattle.ll_node.specs.Enactment.{Scene, InHand, IsGiven, IsMade, Covers, MayEnact, in_hand}
 use Rattle.ll_node.proofs.NameMaps.{get-names_map, len-names_map}
 use Rattle.ll_node.proofs.SlotAccounts.{content_of, link_named, link_other}
 use Rattle.ll_node.proofs.GivenSlots.{held_of, client_stays}

@@ -36,10 +36,10 @@ use Rattle.ll_node.specs.Lent.{emptied_in}
 use Rattle.ll_node.specs.InodeTable.{Table, IsTable, NotIn}
 use Rattle.ll_node.proofs.SlotLists.{same_or_not}
 use Rattle.ll_node.specs.Accounts.{account, accounts}
-use Rattle.ll_node.specs.Enacting.{Scene, InHand, IsGiven, Covers, IsMade, LeavesTable, MayEnact, in_hand}
+use Rattle.ll_node.specs.Enactment.{Scene, InHand, IsGiven, Covers, IsMade, LeavesTable, MayEnact, in_hand}
 use Rattle.ll_node.proofs.Accounted.{inode_at, account_held, account_inode, account_kept, not_here, told_by}
 use Rattle.ll_rights.proofs.Sizes.{same_len}
-use Rattle.ll_node.proofs.Living.{bytes_kind, bytes_next, make_kind}
+use Rattle.ll_node.proofs.Survivors.{bytes_kind, bytes_next, make_kind}
 use Rattle.ll_node.proofs.GivenSlots.{given_tree, kind_there, put_again, some_there}
 use Rattle.ll_node.proofs.SlotAccounts.{bytes_put, bytes_other}
 

@@ -20,12 +20,12 @@ use Rattle.ll_node.specs.declared.held.Held.{Held}
 use Rattle.ll_node.specs.Lent.{vacant, named_in, unnamed_in, vacated}
 use Rattle.ll_node.specs.InodeTable.{Table, IsTable, NotIn, without_inode}
 use Rattle.ll_node.specs.Accounts.{account, names_map}
-use Rattle.ll_node.specs.Enacting.{Scene, InHand, IsGiven, Covers, IsMade, GivesBack, KeepsSlots, in_hand}
+use Rattle.ll_node.specs.Enactment.{Scene, InHand, IsGiven, Covers, IsMade, GivesBack, KeepsSlots, in_hand}
 use Rattle.ll_node.proofs.NameMaps.{get-names_map}
 use Rattle.ll_node.proofs.SlotAccounts.{content_of, rename_over}
 use Rattle.ll_node.proofs.ChangedSlots.{replaced_apart_old, replaced_apart_new, replaced_after, replaced_from}
 use Rattle.ll_node.proofs.ChangedSlots.{replaced_into, replaced_living, after_elsewhere}
-use Rattle.ll_node.proofs.Living.{after_next}
+use Rattle.ll_node.proofs.Survivors.{after_next}
 use Rattle.ll_node.proofs.GivenSlots.{directory_there, held_there, some_there, held_of, all_given, each_stays}
 use Rattle.ll_node.proofs.GivenSlots.{each_but, client_stays, given_back, given_tree, made_by}
 use Rattle.ll_node.proofs.TakenSlots.{at_same, at_other, by_same, not_living, same_held}

@@ -16,9 +16,9 @@ use Rattle.ll_seq.specs.Effect.{FitsResize}
 use Rattle.ll_node.specs.declared.held.Held.{Held}
 use Rattle.ll_node.specs.Lent.{resized_in, AreApart}
 use Rattle.ll_node.proofs.InSlots.{resized_here, resized_elsewhere}
-use Rattle.ll_node.specs.Enacting.{Scene, InHand, IsGiven, IsMade, Covers, MayEnact, in_hand}
+use Rattle.ll_node.specs.Enactment.{Scene, InHand, IsGiven, IsMade, Covers, MayEnact, in_hand}
 use Rattle.ll_node.proofs.SlotAccounts.{content_of, size_put, bytes_other}
-use Rattle.ll_node.proofs.Living.{bytes_next}
+use Rattle.ll_node.proofs.Survivors.{bytes_next}
 use Rattle.ll_node.proofs.GivenSlots.{held_of, client_stays}
 use Rattle.ll_node.proofs.StayingSlots.{named_kind, named_some, given_apart, of_lent, made_staying}
 use Rattle.ll_node.proofs.OpenedSlots.{bytes_parts, bytes_table}

@@ -13,7 +13,7 @@ use Rattle.ll_seq.specs.declared.changes.Rule.{Rule}
 use Rattle.ll_seq.specs.Effect.{with_rule_of}
 use Rattle.ll_node.specs.InodeTable.{IsTable}
 use Rattle.ll_node.proofs.TableSteps.{still_table}
-use Rattle.ll_node.specs.Enacting.{Scene, InHand, IsGiven, IsMade, in_hand}
+use Rattle.ll_node.specs.Enactment.{Scene, InHand, IsGiven, IsMade, in_hand}
 use Rattle.ll_node.proofs.GivenSlots.{put_again}
 use Rattle.ll_node.proofs.OpenedSlots.{one_client}
 

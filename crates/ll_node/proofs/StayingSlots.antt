@@ -16,7 +16,7 @@ use Rattle.ll_node.specs.declared.held.Held.{Held}
 use Rattle.ll_node.specs.Lent.{vacant, AreApart}
 use Rattle.ll_node.specs.InodeTable.{Table, IsTable, NotIn}
 use Rattle.ll_node.specs.Accounts.{account}
-use Rattle.ll_node.specs.Enacting.{Scene, InHand, IsGiven, IsMade, in_hand}
+use Rattle.ll_node.specs.Enactment.{Scene, InHand, IsGiven, IsMade, in_hand}
 use Rattle.ll_node.proofs.SlotAccounts.{content_of}
 use Rattle.ll_node.proofs.Accounted.{inode_at, lent_apart}
 use Rattle.ll_node.proofs.GivenSlots.{held_of, some_there, directory_kind, directory_there, named_there, all_given}

@@ -14,10 +14,10 @@ use Rattle.ll_node.specs.declared.held.Held.{Held}
 use Rattle.ll_node.specs.Lent.{vacant, unnamed_in, vacated}
 use Rattle.ll_node.specs.InodeTable.{Table, IsTable, NotIn, without_inode}
 use Rattle.ll_node.specs.Accounts.{account}
-use Rattle.ll_node.specs.Enacting.{Scene, InHand, IsGiven, Covers, IsMade, GivesBack, KeepsSlots, in_hand}
+use Rattle.ll_node.specs.Enactment.{Scene, InHand, IsGiven, Covers, IsMade, GivesBack, KeepsSlots, in_hand}
 use Rattle.ll_node.proofs.SlotAccounts.{content_of}
 use Rattle.ll_node.proofs.ChangedSlots.{taken_apart, taken_from, taken_living, after_elsewhere}
-use Rattle.ll_node.proofs.Living.{after_next}
+use Rattle.ll_node.proofs.Survivors.{after_next}
 use Rattle.ll_node.proofs.GivenSlots.{directory_there, held_there, some_there, held_of, each_stays, each_but}
 use Rattle.ll_node.proofs.GivenSlots.{client_stays, given_back, given_tree, made_by}
 

@@ -1,5 +1,5 @@
 pub mod Accounts
-pub mod Enacting
+pub mod Enactment
 pub mod Held
 pub mod InodeTable
 pub mod Lent

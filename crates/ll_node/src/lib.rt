@@ -8,17 +8,17 @@
 //! texts of the names.
 #![tactic(auto)]
 
+mod alteration;
+mod creation;
 mod directory;
-mod enacting;
+mod enactment;
 mod held;
 mod lent;
-mod making;
-mod moving;
+mod removal;
 mod slot;
 mod table;
-mod taking;
 
-pub use enacting::enact;
+pub use enactment::enact;
 pub use held::Held;
 pub use lent::{
     clear, fill, find, move_name, name, replace_name, set_len, take_name, unmark, vacate,

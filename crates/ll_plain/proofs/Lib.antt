@@ -1,5 +1,5 @@
 pub mod Clients
-pub mod Granting
+pub mod PathGrants
 pub mod Moved
 pub mod StepParts
 pub mod Reaches

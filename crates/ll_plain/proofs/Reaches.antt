@@ -12,7 +12,7 @@ use Rattle.ll_decide.proofs.Bits.{holds-or}
 use Rattle.ll_seq.specs.declared.dentries.Dentry.{Dentry}
 use Rattle.ll_seq.specs.State.{State, root}
 use Rattle.ll_seq.specs.Tree.{named}
-use Rattle.ll_plain.specs.Reaching.{Found, Leads, is_ruled}
+use Rattle.ll_plain.specs.BoundedReach.{Found, Leads, is_ruled}
 use Rattle.ll_seq.proofs.Parted.{or_split, or_left, or_right, end_push, last, any_push, any_end}
 use Rattle.ll_seq.proofs.DentryRows.{row_of_child, child_of_row}
 

@@ -1,5 +1,5 @@
+pub mod BoundedReach
 pub mod Outcomes
-pub mod Reaching
 pub mod Refusal
 pub mod Tables
-pub mod Walking
+pub mod WalkPlace

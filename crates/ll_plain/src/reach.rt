@@ -4,7 +4,7 @@ ghost use Rattle.std.specs.Prelude.{◌≡◌, ◌≤◌, ◌<◌, ◌-◌, ◌^
 ghost use Rattle.ll_rights.specs.Access.{holds};
 ghost use Rattle.ll_rules.specs.Layer as layers;
 ghost use Rattle.ll_seq.specs.Reach.{HasName, InReach};
-ghost use Rattle.ll_plain.specs.Reaching.{Found, Leads};
+ghost use Rattle.ll_plain.specs.BoundedReach.{Found, Leads};
 
 use crate::Plain;
 use ll_decide::unrestricted;

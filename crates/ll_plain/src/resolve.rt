@@ -7,7 +7,7 @@ ghost use Rattle.ll_seq.specs.Step.{client_of};
 ghost use Rattle.ll_seq.specs.Decided.{IsDone, IsRefused};
 ghost use Rattle.ll_seq.specs.Found.{AreFacts};
 ghost use Rattle.ll_seq.specs.Passed.{has_path};
-ghost use Rattle.ll_plain.specs.Walking.{IsPathWalk};
+ghost use Rattle.ll_plain.specs.WalkPlace.{IsPathWalk};
 
 use crate::Plain;
 use crate::walk::PathWalk;

@@ -6,7 +6,7 @@ ghost use Rattle.ll_seq.specs.Found.{IsSpot};
 ghost use Rattle.ll_seq.specs.State.{child, root};
 ghost use Rattle.ll_seq.specs.Stages as stages;
 ghost use Rattle.ll_seq.specs.Tree.{directory_of, named};
-ghost use Rattle.ll_plain.specs.Walking.{IsWalk, IsPathWalk};
+ghost use Rattle.ll_plain.specs.WalkPlace.{IsWalk, IsPathWalk};
 
 use crate::Plain;
 use ll_decide::Masks;

@@ -2,7 +2,7 @@
 use Rattle.std.proofs.Common.{◌≡◌, ◌<◌, ◌+◌, ◌^◌, ℕ, List, ◌∷◌, length, get_or, drop, ap, sym, ◌∙◌, subst}
 use Rattle.std.specs.Prelude.{bit_or}
 use Rattle.std.proofs.lemmas.List.{drop_more}
-use Rattle.ll_policy.specs.Meaning.{IsMeant, Mean}
+use Rattle.ll_policy.specs.MeantRights.{IsMeant, Mean}
 
 -- what the words from one on mean with this set is what all mean
 abbrev pub IsSoFar : List (List ℕ) → ℕ → ℕ → Type 0

@@ -4,7 +4,7 @@ use Rattle.std.proofs.Common.{subst}
 use Rattle.std.specs.Prelude.{IfNone, IfSome, ◌==◌}
 use Rattle.std.proofs.lemmas.Bool.{agree_below_at, cases_lt, eqb-true}
 use Rattle.ll_rights.specs.Right.{all_rights, right_text}
-use Rattle.ll_policy.specs.Meaning.{IsMeant, IsStrange, edits}
+use Rattle.ll_policy.specs.MeantRights.{IsMeant, IsStrange, edits}
 
 -- the edits to the name of a right
 abbrev pub away : List ℕ → ℕ → ℕ

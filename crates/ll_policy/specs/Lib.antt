@@ -2,7 +2,7 @@ pub mod Answers
 pub mod Calls
 pub mod Faults
 pub mod KeptCalls
-pub mod Meaning
+pub mod MeantRights
 pub mod Places
 pub mod Plan
 pub mod Table

@@ -3,7 +3,7 @@
 
 use crate::fault::PolicyFault;
 use crate::lines::line_of;
-use crate::meaning::rights_meant;
+use crate::meant_rights::rights_meant;
 use crate::place::{Place, PlacedFault};
 use ll_rights::{Access, Right};
 use std::alloc::{AllocError, Global};

@@ -2,10 +2,10 @@
 use Rattle.std.proofs.Common.{◌≡◌, ◌≢◌, ℕ, List, Option, refl, subst, sym}
 use Rattle.std.specs.Prelude.{IfSome}
 use Rattle.ll_wire.specs.Pieces.{pieces}
-use Rattle.ll_wire.specs.Writing.{AppendsFront}
+use Rattle.ll_wire.specs.WriterGains.{AppendsFront}
 use Rattle.ll_audit.specs.Saved.{Judges, verdict_line}
-use Rattle.ll_audit.specs.declared.auditing.FileAuditFault.{FileAuditFault}
-use Rattle.ll_audit.specs.declared.auditing.FileAuditFault.TheVariants as audit
+use Rattle.ll_audit.specs.declared.file_audit.FileAuditFault.{FileAuditFault}
+use Rattle.ll_audit.specs.declared.file_audit.FileAuditFault.TheVariants as audit
 use Rattle.ll_audit.specs.declared.verdict.Verdict.{Verdict}
 use Rattle.ll_program.specs.declared.failure.Failure.{Failure}
 use Rattle.ll_program.specs.Failure.{FailsAudit, failure_at}

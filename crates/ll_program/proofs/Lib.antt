@@ -10,7 +10,7 @@ pub mod Added
 pub mod DeniedWords
 pub mod Known
 pub mod Spoken
-pub mod Stopping
+pub mod PerformedRuns
 pub mod Audited
 pub mod Kept
 pub mod Questions

@@ -14,16 +14,16 @@ use Rattle.ll_session.specs.declared.stop.Stop.{Stop}
 use Rattle.ll_session.specs.declared.stop.Stop.TheVariants.{AtLine, AtOpening}
 use Rattle.ll_wire.specs.declared.fault.SessionFault.{SessionFault}
 use Rattle.ll_wire.specs.declared.fault.SessionFault.TheVariants as session
-use Rattle.ll_audit.specs.declared.auditing.FileAuditFault.{FileAuditFault}
-use Rattle.ll_audit.specs.declared.auditing.FileAuditFault.TheVariants as audit
-use Rattle.ll_audit.specs.declared.saving.SaveFault.{SaveFault}
-use Rattle.ll_audit.specs.declared.saving.SaveFault.TheVariants as saving
+use Rattle.ll_audit.specs.declared.file_audit.FileAuditFault.{FileAuditFault}
+use Rattle.ll_audit.specs.declared.file_audit.FileAuditFault.TheVariants as audit
+use Rattle.ll_audit.specs.declared.archive.SaveFault.{SaveFault}
+use Rattle.ll_audit.specs.declared.archive.SaveFault.TheVariants as saving
 use Rattle.ll_audit.specs.declared.verdict.Verdict.{Verdict}
 use Rattle.ll_audit.specs.declared.verdict.Verdict.TheVariants.{Legal, Illegal, BadLine}
 use Rattle.ll_audit.specs.Saved.{Judges, verdict_line}
 use Rattle.ll_wire.specs.Grammar.{reply_line}
 use Rattle.ll_wire.specs.Pieces.{pieces}
-use Rattle.ll_wire.specs.Writing.{AppendsFront}
+use Rattle.ll_wire.specs.WriterGains.{AppendsFront}
 use Rattle.ll_program.specs.declared.failure.Failure.{Failure}
 use Rattle.ll_program.specs.declared.failure.Failure.TheVariants.{CommandLine, Policy, Opening, File, Output, Socket}
 use Rattle.ll_program.specs.declared.failure.Failure.TheVariants.{NoMemory}

@@ -7,7 +7,7 @@ ghost use Rattle.std.specs.List.{All};
 ghost use Rattle.ll_rights.specs.declared.limits.TheConstants.{TREE_NODES};
 ghost use Rattle.ll_wire.specs.Devices.{IsWhole};
 ghost use Rattle.ll_program.specs.Options.{order_in};
-ghost use Rattle.ll_audit.specs.declared.auditing.FileAuditFault.{FileAuditFault};
+ghost use Rattle.ll_audit.specs.declared.file_audit.FileAuditFault.{FileAuditFault};
 ghost use Rattle.ll_audit.specs.Faults.{BlamesAudit, IsReading};
 ghost use Rattle.ll_audit.specs.Saved.{Judges, saved_text, verdict_line};
 ghost use Rattle.ll_session.specs.declared.fault.RunFault.{RunFault};

@@ -18,7 +18,7 @@ use Rattle.ll_seq.specs.declared.client.ClientRecord.{ClientRecord}
 use Rattle.ll_seq.specs.declared.reply.Reply.{Reply}
 use Rattle.ll_seq.specs.State.{State}
 use Rattle.ll_seq.specs.Step.{refusals, client_of}
-use Rattle.ll_seq.proofs.Asking.{verdict_same}
+use Rattle.ll_seq.proofs.AskedLists.{verdict_same}
 use Rattle.ll_seq.proofs.StepParts.{comes_to}
 use Rattle.ll_seq.proofs.Walked.{one_free, other_free}
 use Rattle.ll_seq.specs.declared.changes.Effect.{Effect}

@@ -16,7 +16,7 @@ use Rattle.ll_seq.specs.Stages.{has_many_names, has_names, in_the_way, is_crowde
 use Rattle.ll_seq.specs.State.{State, kind_of, name_count, names_in, root}
 use Rattle.ll_seq.specs.Tree.{directory_of, named}
 use Rattle.ll_seq.proofs.StepParts.{none_first}
-use Rattle.ll_seq.proofs.Standing.{way_leads}
+use Rattle.ll_seq.proofs.LastNames.{way_leads}
 use Rattle.ll_seq.specs.Found.{IsSpot, crowded_at, spot_by, there_at, there_by, there_in}
 
 module _ (s : State) (facts : Map nat_cmp Fact) (kept : AreKept s facts) where

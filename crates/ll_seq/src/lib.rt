@@ -3,11 +3,11 @@
 
 mod before;
 mod call;
+mod call_demands;
 mod changes;
 mod client;
 mod clients;
-mod deciding;
-mod demanding;
+mod decision;
 mod dentries;
 mod effects;
 mod facts;
@@ -25,10 +25,10 @@ mod targets;
 
 pub use before::{refused_early, refused_found};
 pub use call::{AccessMode, Call, Creation, Mode};
+pub use call_demands::demands_of;
 pub use changes::{Answer, At, Change, Effect, Opening, Rule};
 pub use client::{ClientRecord, Descriptor, Rulesets};
-pub use deciding::{decide, decide_passed};
-pub use demanding::demands_of;
+pub use decision::{decide, decide_passed};
 pub use dentries::{Dentries, Dentry};
 pub use effects::effect_of;
 pub use facts::{Fact, MOST_OPENS, ROOT};

@@ -12,7 +12,7 @@ use Rattle.ll_seq.specs.declared.call.Call.TheVariants.{Connect, Spawn}
 use Rattle.ll_seq.specs.declared.reply.Reply.{Reply}
 use Rattle.ll_seq.specs.declared.reply.Reply.TheVariants.{Done, Spawned}
 use Rattle.ll_seq.specs.History.{is_connect}
-use Rattle.ll_client.specs.Coming.{childless}
+use Rattle.ll_client.specs.CallStart.{childless}
 use Rattle.ll_client.specs.Entries.{Knows, knows, numbered}
 use Rattle.ll_client.specs.Gains.{Gains, Told}
 use Rattle.ll_client.specs.Replies.{Fits, success}

@@ -21,7 +21,7 @@ use Rattle.ll_session.specs.Beside as beside
 use Rattle.ll_session.specs.Beside.{AnswersBeside, placed}
 use Rattle.ll_session.specs.Between.{Leads, between}
 use Rattle.ll_session.specs.CallsRun.{LinesGetTheReplies, Makes, Replied, RepliedBeside, RepliesTo, call_line}
-use Rattle.ll_session.specs.Opening.{Opens, begun, refused}
+use Rattle.ll_session.specs.FirstClients.{Opens, begun, refused}
 use Rattle.ll_session.specs.PartySession.{Session}
 use Rattle.ll_session.specs.Progress.{without}
 use Rattle.ll_session.specs.Session.{Answers, Tells}
@@ -30,7 +30,7 @@ use Rattle.ll_session.specs.declared.calls_run.CallReplies.TheVariants as replie
 use Rattle.ll_session.specs.declared.client_call.ClientCall.{ClientCall}
 use Rattle.ll_session.specs.declared.refusal.Refusal.{Refusal}
 use Rattle.ll_session.specs.declared.setup.Setup.{Setup}
-use Rattle.ll_session.proofs.Leading.{nothing_leads, so_leads, then_leads}
+use Rattle.ll_session.proofs.ActChains.{nothing_leads, so_leads, then_leads}
 use Rattle.ll_session.proofs.Replies.{answers_count, answers_so}
 use Rattle.ll_session.proofs.Ways.{AtEnd}
 

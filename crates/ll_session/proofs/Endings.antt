@@ -17,7 +17,7 @@ use Rattle.ll_wire.specs.declared.fault.SessionFault.{SessionFault}
 use Rattle.ll_wire.specs.declared.fault.SessionFault.TheVariants.{Read, Write, NoMemory, TooLong}
 use Rattle.ll_session.specs.PartySession as at
 use Rattle.ll_session.specs.Session.{Answers, Tells}
-use Rattle.ll_session.specs.Opening.{begun, fresh, refused, Opens}
+use Rattle.ll_session.specs.FirstClients.{begun, fresh, refused, Opens}
 use Rattle.ll_session.specs.Run.{Begins, BeginsBy, BeginsLines, BeginsRefusal, IsOpened, MayEnd, Runs, RunsAs}
 use Rattle.ll_session.specs.Run.{refusal_in}
 use Rattle.ll_session.specs.Progress.{IsOfRefusal, RunsTo, StopsAt, without}
@@ -28,7 +28,7 @@ use Rattle.ll_session.specs.declared.stop.Run.{Run}
 use Rattle.ll_session.specs.declared.stop.Stop.{Stop}
 use Rattle.ll_session.specs.declared.stop.Stop.TheVariants.{AtOpening}
 use Rattle.ll_wire.proofs.WrittenText.{appends-none}
-use Rattle.ll_session.proofs.Coming.{may_be_refused}
+use Rattle.ll_session.proofs.FirstComers.{may_be_refused}
 use Rattle.ll_session.proofs.Scores.{lax_lines, lines_counted, strict_lines}
 use Rattle.ll_session.proofs.Ways.{AtEnd}
 

@@ -15,13 +15,13 @@ use Rattle.ll_seq.specs.declared.reply.Reply.{Reply}
 use Rattle.ll_seq.specs.declared.rules.Rules.{Rules}
 use Rattle.ll_journal.specs.declared.direct.Made.{Made}
 use Rattle.ll_client.specs.Closed.{IsClosed, numbers_of}
-use Rattle.ll_client.specs.Coming.{childless}
+use Rattle.ll_client.specs.CallStart.{childless}
 use Rattle.ll_client.specs.Entries.{Knows}
 use Rattle.ll_session.specs.Between.{IsSettled, Leads, between}
 use Rattle.ll_session.specs.PartySession.{Called, Connects, Session, following, joined}
 use Rattle.ll_session.specs.Talk.{Asks, AsksFor, Goes, Joins, Spawns, asks, looks, nowhere, reply_of, seen_by}
 use Rattle.ll_session.proofs.Edges.{may_fail}
-use Rattle.ll_session.proofs.Leading.{nothing_leads, so_leads, then_leads}
+use Rattle.ll_session.proofs.ActChains.{nothing_leads, so_leads, then_leads}
 use Rattle.ll_session.proofs.Turns as turns
 
 -- there is a session to which its connect leads, with this refusal

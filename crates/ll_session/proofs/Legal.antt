@@ -29,8 +29,8 @@ use Rattle.ll_session.specs.declared.refusal.Opener.TheVariants.{Loader, Profile
 use Rattle.ll_session.specs.declared.refusal.Refusal.{Refusal}
 use Rattle.ll_session.specs.declared.setup.Setup.{Setup}
 use Rattle.ll_session.specs.PartySession.{following, joined}
-use Rattle.ll_session.specs.Opening.{Comes, EndsOpening, Loads, Makes, Opens, Stops, begun, fresh, made, refused}
-use Rattle.ll_session.specs.Opening.{unconnected, unmade}
+use Rattle.ll_session.specs.FirstClients.{Comes, EndsOpening, Loads, Makes, Opens, Stops, begun, fresh, made, refused}
+use Rattle.ll_session.specs.FirstClients.{unconnected, unmade}
 use Rattle.ll_session.specs.Run.{RunsLegally}
 use Rattle.ll_wire.specs.Transcript.{Transcript}
 use Rattle.ll_session.specs.PartySession.{Session, Called, answered, full, starved}

@@ -16,7 +16,7 @@ use Rattle.ll_client.specs.Entries.{Knows, knows, numbered}
 use Rattle.ll_seq.specs.declared.reply.Reply.{Reply}
 use Rattle.ll_session.specs.Talk.{Asks, AsksFor, IsLast, IsMet, Joins, LooksAt, Spawns, is_birth, met, seen_by}
 use Rattle.ll_session.proofs.Acts.{asks_so, looks_last, push_last, spawns_so, told_last, told_seen}
-use Rattle.ll_session.proofs.Meeting.{last_knows, set_same}
+use Rattle.ll_session.proofs.Meetings.{last_knows, set_same}
 
 some_there : {A : Type 0} (xs : List A) (n : ℕ) → n ≡ length xs → (n == 0) ≡ false → 0 < length xs
 some_there [] n size is = absurd (false≢true (sym is ∙ ap (λ m. m == 0) size))

@@ -11,7 +11,7 @@ use Rattle.ll_seq.specs.declared.reply.Entry.{Entry}
 use Rattle.ll_session.specs.Talk.{seen_by}
 use Rattle.ll_session.proofs.Points.{one_taken}
 use Rattle.ll_wire.specs.Entries.{entry_line}
-use Rattle.ll_session.specs.Keeping.{AreKept, AreLines, Fills, Turns, kept_of}
+use Rattle.ll_session.specs.KeptHistory.{AreKept, AreLines, Fills, Turns, kept_of}
 use Rattle.ll_session.specs.declared.chronicle.Pages.{Pages}
 use Rattle.ll_session.specs.declared.page.Page.{Page}
 use Rattle.ll_session.specs.declared.keeper.Kept.TheVariants.{Nowhere, UpTo}

@@ -16,7 +16,7 @@ use Rattle.ll_seq.specs.declared.rules.Rules.{Rules}
 use Rattle.ll_seq.specs.Stages.{numbers_from}
 use Rattle.ll_client.specs.Closed.{numbers_of}
 use Rattle.ll_client.specs.Entries.{Knows}
-use Rattle.ll_wire.specs.Cutting.{Holds}
+use Rattle.ll_wire.specs.LineCuts.{Holds}
 use Rattle.ll_wire.proofs.Cuts.{kept, long}
 use Rattle.ll_wire.specs.Grammar.{SpellsCommand}
 use Rattle.ll_wire.specs.Reads.{ReadsBy, holds_text}
@@ -24,7 +24,7 @@ use Rattle.ll_session.specs.Between.{IsSettled, Leads, between}
 use Rattle.ll_session.specs.PartySession.{Session, Called, answered, brought, full, starved}
 use Rattle.ll_session.specs.Talk.{AsksFor, Goes, Looks, looks, nowhere, seen_by}
 use Rattle.ll_session.proofs.Later.{called_later}
-use Rattle.ll_session.proofs.Leading.{nothing_leads, so_leads}
+use Rattle.ll_session.proofs.ActChains.{nothing_leads, so_leads}
 use Rattle.ll_session.proofs.Leadings.{ask_so}
 use Rattle.ll_session.proofs.Lists.{asks_for_count}
 use Rattle.ll_session.proofs.Seen.{count_numbers}

@@ -11,7 +11,7 @@ use Rattle.ll_seq.specs.declared.reply.Reply.{Reply}
 use Rattle.ll_seq.specs.declared.reply.Reply.TheVariants.{Refused}
 use Rattle.ll_seq.specs.declared.rules.Rules.{Rules}
 use Rattle.ll_wire.proofs.Cuts.{kept}
-use Rattle.ll_wire.specs.Cutting.{Holds}
+use Rattle.ll_wire.specs.LineCuts.{Holds}
 use Rattle.ll_wire.specs.Devices.{Devices}
 use Rattle.ll_wire.specs.Grammar.{SpellsCommand, reply_line}
 use Rattle.ll_wire.specs.Pieces.{pieces}
@@ -28,7 +28,7 @@ use Rattle.ll_session.specs.Strict.{EndsAt, IsEnd, Scores, ScoresTo, TellsStrict
 use Rattle.ll_session.specs.Talk.{Goes}
 use Rattle.ll_session.specs.declared.score.Score.{Score}
 use Rattle.ll_session.specs.declared.tally.Tally.{Tally}
-use Rattle.ll_session.proofs.Leading.{nothing_leads, so_leads, then_leads}
+use Rattle.ll_session.proofs.ActChains.{nothing_leads, so_leads, then_leads}
 use Rattle.ll_session.proofs.Leadings.{goes_so}
 use Rattle.ll_session.proofs.Replies.{answers_count, answers_so}
 

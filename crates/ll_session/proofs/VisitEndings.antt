@@ -5,7 +5,7 @@ use Rattle.std.specs.Prelude.{IfErr, OnErr, OnOk}
 use Rattle.std.specs.Io.KnownBytes.{Appends}
 use Rattle.ll_rights.specs.declared.errno.Errno.{Errno}
 use Rattle.ll_seq.specs.declared.call.Call.{Call}
-use Rattle.ll_client.specs.Coming.{HasNoPlace}
+use Rattle.ll_client.specs.CallStart.{HasNoPlace}
 use Rattle.ll_client.specs.Entries.{Knows}
 use Rattle.ll_wire.specs.Devices.{Devices, untouched}
 use Rattle.ll_wire.specs.Reached.{Blames, StartsAll}
@@ -14,7 +14,7 @@ use Rattle.ll_wire.specs.declared.fault.SessionFault.TheVariants.{Read, Write, N
 use Rattle.ll_session.specs.Beside.{AnswersBeside, MakesBeside, StopsBeside}
 use Rattle.ll_session.specs.Counts.{counted, first_score, nothing}
 use Rattle.ll_session.specs.Strict.{Scores, ScoresTo}
-use Rattle.ll_session.specs.Opening.{unconnected_by}
+use Rattle.ll_session.specs.FirstClients.{unconnected_by}
 use Rattle.ll_session.specs.declared.refusal.Opener.TheVariants.{Profile}
 use Rattle.ll_session.specs.declared.refusal.Refusal.{Refusal}
 use Rattle.ll_session.specs.declared.score.Score.{Score}

@@ -11,9 +11,9 @@ use Rattle.ll_session.specs.Between.{IsSettled, Leads, between}
 use Rattle.ll_session.specs.PartySession.{Session, Called}
 use Rattle.ll_session.proofs.Edges.{points}
 use Rattle.ll_session.proofs.Growths.{stays_so}
-use Rattle.ll_session.proofs.Leading.{at_closing, so_leads, then_leads}
+use Rattle.ll_session.proofs.ActChains.{at_closing, so_leads, then_leads}
 use Rattle.ll_session.specs.declared.setup.Setup.{Setup}
-use Rattle.ll_session.specs.Opening.{fresh}
+use Rattle.ll_session.specs.FirstClients.{fresh}
 use Rattle.ll_session.specs.Progress.{Closes}
 use Rattle.ll_session.proofs.SessionPlaces.{at}
 

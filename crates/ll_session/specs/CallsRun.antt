@@ -7,7 +7,7 @@ use Rattle.ll_client.specs.Entries.{Knows}
 use Rattle.ll_wire.specs.Grammar.{call_tokens, client_tokens, line_of, reply_line}
 use Rattle.ll_wire.specs.Transcript.{Transcript}
 use Rattle.ll_session.specs.Beside.{AnswersBeside}
-use Rattle.ll_session.specs.Opening.{Opens, begun, refused}
+use Rattle.ll_session.specs.FirstClients.{Opens, begun, refused}
 use Rattle.ll_session.specs.PartySession.{Session}
 use Rattle.ll_session.specs.Progress.{without}
 use Rattle.ll_session.specs.Session.{Answers, Tells}

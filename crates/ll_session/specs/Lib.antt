@@ -2,10 +2,10 @@ pub mod Beside
 pub mod Between
 pub mod CallsRun
 pub mod Counts
+pub mod FirstClients
 pub mod Growth
-pub mod Keeping
+pub mod KeptHistory
 pub mod Laws
-pub mod Opening
 pub mod PartySession
 pub mod Progress
 pub mod Rooms

@@ -13,7 +13,7 @@ use Rattle.ll_wire.specs.Devices.{Devices}
 use Rattle.ll_wire.specs.Reached.{StartsAll}
 use Rattle.ll_wire.specs.declared.fault.SessionFault.{SessionFault}
 use Rattle.ll_wire.specs.declared.fault.SessionFault.TheVariants as fault
-use Rattle.ll_wire.specs.Writing.{AppendsFront}
+use Rattle.ll_wire.specs.WriterGains.{AppendsFront}
 use Rattle.ll_session.specs.Between.{Leads}
 use Rattle.ll_session.specs.PartySession.{Session}
 use Rattle.ll_session.specs.Talk.{Goes, Looks, goes_on, nowhere, seen_by}

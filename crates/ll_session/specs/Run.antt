@@ -17,7 +17,7 @@ use Rattle.ll_wire.specs.Transcript.{Transcript}
 use Rattle.ll_wire.specs.declared.fault.SessionFault.TheVariants as fault
 use Rattle.ll_session.specs.PartySession.{Session}
 use Rattle.ll_session.specs.Session.{Tells}
-use Rattle.ll_session.specs.Opening.{Opens, begun, refused, stopped}
+use Rattle.ll_session.specs.FirstClients.{Opens, begun, refused, stopped}
 use Rattle.ll_session.specs.Strict.{RunsStrictly, TellsStrictly}
 use Rattle.ll_session.specs.declared.stop.Stop.{Stop}
 use Rattle.ll_session.specs.declared.stop.Stop.TheVariants.{AtLine, AtOpening}

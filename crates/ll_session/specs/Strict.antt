@@ -15,7 +15,7 @@ use Rattle.ll_session.specs.PartySession.{Session}
 use Rattle.ll_wire.specs.Grammar.{SpellsCommand, reply_line}
 use Rattle.ll_wire.specs.Pieces.{pieces}
 use Rattle.ll_session.specs.Counts.{counted}
-use Rattle.ll_session.specs.Opening.{Opens, begun, refused}
+use Rattle.ll_session.specs.FirstClients.{Opens, begun, refused}
 use Rattle.ll_session.specs.Session.{Answers}
 use Rattle.ll_session.specs.declared.score.Score.{Score}
 use Rattle.ll_session.specs.declared.setup.Setup.{Setup}

@@ -6,13 +6,13 @@ use Rattle.ll_rights.specs.declared.errno.Errno.{Errno}
 use Rattle.ll_seq.specs.declared.call.Call.{Call}
 use Rattle.ll_seq.specs.declared.call.Call.TheVariants.{Connect}
 use Rattle.ll_seq.specs.declared.reply.Reply.TheVariants.{Done}
-use Rattle.ll_client.specs.Coming.{HasNoPlace}
+use Rattle.ll_client.specs.CallStart.{HasNoPlace}
 use Rattle.ll_client.specs.Entries.{Knows, knows, numbered}
 use Rattle.ll_wire.specs.Devices.{Devices, untouched}
 use Rattle.ll_wire.specs.Reached.{AnswersAll, Blames, StartsAll}
 use Rattle.ll_wire.specs.declared.fault.SessionFault.{SessionFault}
 use Rattle.ll_wire.specs.declared.fault.SessionFault.TheVariants as fault
-use Rattle.ll_session.specs.Opening.{unconnected_by}
+use Rattle.ll_session.specs.FirstClients.{unconnected_by}
 use Rattle.ll_session.specs.declared.refusal.Opener.TheVariants.{Profile}
 use Rattle.ll_session.specs.declared.refusal.Refusal.{Refusal}
 use Rattle.ll_session.specs.declared.stream.Stream.{Stream}
@@ -21,7 +21,7 @@ use Rattle.ll_session.specs.Counts.{counted, nothing}
 use Rattle.ll_session.specs.declared.stream.Outcome.{Outcome}
 use Rattle.ll_session.specs.declared.tally.Tally.{Tally}
 use Rattle.ll_wire.specs.Grammar.{reply_line}
-use Rattle.ll_wire.specs.Writing.{AppendsFront}
+use Rattle.ll_wire.specs.WriterGains.{AppendsFront}
 
 -- a client has just come: it knows of its connect, and of no later entry
 abbrev pub HasCome : Knows → Type 0

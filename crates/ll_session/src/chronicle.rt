@@ -2,8 +2,8 @@
 
 ghost use Rattle.std.specs.Prelude.{◌≡◌, OnErr, OnOk, false, true, string_bytes};
 ghost use Rattle.std.specs.Io.KnownBytes.{Appends};
-ghost use Rattle.ll_wire.specs.Writing.{AppendsFront};
-ghost use Rattle.ll_session.specs.Keeping.{AreKept, kept_of};
+ghost use Rattle.ll_wire.specs.WriterGains.{AppendsFront};
+ghost use Rattle.ll_session.specs.KeptHistory.{AreKept, kept_of};
 
 use crate::keeper::{Keeps, Kept};
 use crate::page::Page;
@@ -43,7 +43,7 @@ impl<W: Write> Pages<W> {
     ghost use Rattle.std.specs.Prelude.{List, ℕ, IsTrue, ◌<◌, ◌≤◌, length};
     ghost use Rattle.ll_seq.specs.declared.reply.Entry.{Entry};
     ghost use Rattle.ll_session.specs.Talk.{seen_by};
-    ghost use Rattle.ll_session.specs.Keeping.{Turns};
+    ghost use Rattle.ll_session.specs.KeptHistory.{Turns};
 
     // Returns how much of the history is kept.
     fn kept(&self) -> Kept

@@ -1,7 +1,7 @@
 //! Who keeps a history while it grows.
 
 ghost use Rattle.std.specs.Prelude.{◌≡◌};
-ghost use Rattle.ll_session.specs.Keeping.{AreKept};
+ghost use Rattle.ll_session.specs.KeptHistory.{AreKept};
 
 use crate::{Gate, Party, Tree};
 use ll_client::Shape;

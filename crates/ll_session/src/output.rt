@@ -5,7 +5,7 @@ ghost use Rattle.std.specs.Io.KnownBytes.{Appends};
 ghost use Rattle.ll_wire.specs.Devices.{IsWhole};
 ghost use Rattle.ll_wire.specs.Reached.{Blames};
 ghost use Rattle.ll_wire.specs.Grammar.{reply_line};
-ghost use Rattle.ll_session.specs.Keeping.{AreKept};
+ghost use Rattle.ll_session.specs.KeptHistory.{AreKept};
 ghost use Rattle.ll_session.specs.Progress.{IsOfRefusal};
 
 use crate::Party;

@@ -40,7 +40,7 @@ fn push_entry(alloc: Global, entry: &Entry, text: &mut String) -> Result<(), All
 impl Page {
     ghost use Rattle.std.specs.Prelude.{List, Some, ◌+◌, false, length, slice_get};
     ghost use Rattle.ll_seq.specs.declared.reply.Entry.{Entry};
-    ghost use Rattle.ll_session.specs.Keeping.{Fills};
+    ghost use Rattle.ll_session.specs.KeptHistory.{Fills};
     ghost use Rattle.ll_session.specs.declared.page.Page.{Page};
 
     /// Returns an empty page, before the first entry.
@@ -93,7 +93,7 @@ impl Page {
 }
 
 impl ReadsHistory for Page {
-    ghost use Rattle.ll_session.specs.Keeping.{Fills};
+    ghost use Rattle.ll_session.specs.KeptHistory.{Fills};
 
     ghost reads = { λ before entries after. Fills before entries after };
 

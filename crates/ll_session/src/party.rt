@@ -10,7 +10,7 @@ ghost use Rattle.ll_seq.specs.declared.call.Call.TheVariants as calls;
 ghost use Rattle.ll_seq.specs.declared.reply.Reply.TheVariants as replies;
 ghost use Rattle.ll_journal.specs.declared.direct.Made.{Made};
 ghost use Rattle.ll_client.specs.Closed.{IsClosed};
-ghost use Rattle.ll_client.specs.Coming.{HasNoPlace, is_at_full};
+ghost use Rattle.ll_client.specs.CallStart.{HasNoPlace, is_at_full};
 ghost use Rattle.ll_client.specs.Entries.{knows, numbered};
 ghost use Rattle.ll_client.specs.Replies.{success};
 ghost use Rattle.ll_session.specs.Between.{Leads};

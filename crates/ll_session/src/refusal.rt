@@ -2,7 +2,7 @@
 
 ghost use Rattle.std.specs.Prelude.{◌≡◌};
 ghost use Rattle.ll_seq.specs.declared.reply.Reply.{Reply};
-ghost use Rattle.ll_session.specs.Opening.{is_told, unconnected_by};
+ghost use Rattle.ll_session.specs.FirstClients.{is_told, unconnected_by};
 
 use ll_rights::Errno;
 use ll_seq::Reply;

@@ -20,9 +20,9 @@ ghost use Rattle.ll_wire.specs.Devices.{IsWhole};
 ghost use Rattle.ll_wire.specs.Reached.{Blames};
 ghost use Rattle.ll_session.specs.Progress.{Closes, IsOfRefusal, RunsTo, StopsAt};
 
-use crate::answering::OpenSession;
 use crate::fault::RunFault;
 use crate::keeper::{Keeps, Kept, NoKeeper};
+use crate::open_session::OpenSession;
 use crate::output::tell_reply;
 use crate::scored::session;
 use crate::setup::Setup;

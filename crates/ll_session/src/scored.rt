@@ -10,8 +10,8 @@ ghost use Rattle.ll_session.specs.Counts.{first_score};
 ghost use Rattle.ll_session.specs.Strict.{Scores, ScoresTo};
 ghost use Rattle.ll_session.specs.Talk.{Goes};
 
-use crate::answering::OpenSession;
 use crate::keeper::Keeps;
+use crate::open_session::OpenSession;
 use crate::score::Score;
 use crate::{Gate, Party};
 use ll_client::Shape;
@@ -27,7 +27,7 @@ struct ScoredSession<'a, N: Shape, R: Wait, G: Gate<N>, K: Keeps> {
 
 impl<'a, N: Shape, R: Wait, G: Gate<N>, K: Keeps> Answers for ScoredSession<'a, N, R, G, K> {
     ghost use Rattle.std.specs.Prelude.{is_some};
-    ghost use Rattle.ll_session.specs.Keeping.{AreKept};
+    ghost use Rattle.ll_session.specs.KeptHistory.{AreKept};
     ghost use Rattle.ll_session.specs.Progress.{ScoreStandsOn, score_stands, score_stands_on};
 
     ghost tells = { λ a piece line b.

@@ -10,7 +10,7 @@ ghost use Rattle.ll_session.specs.Counts.{counted, nothing};
 ghost use Rattle.ll_session.specs.Progress.{IsOfRefusal};
 ghost use Rattle.ll_session.specs.Session.{AreOthers};
 ghost use Rattle.ll_wire.specs.Grammar.{reply_line};
-ghost use Rattle.ll_client.specs.Coming.{HasNoPlace};
+ghost use Rattle.ll_client.specs.CallStart.{HasNoPlace};
 ghost use Rattle.ll_client.specs.Entries.{Knows};
 ghost use Rattle.ll_session.specs.Visit.{HasCome, StartsBy, Visits, WasServedSo};
 

@@ -8,7 +8,7 @@ ghost use Rattle.ll_session.specs.Visit.{WasServed};
 use crate::host::Host;
 use crate::stream::{Served, Stream};
 use crate::visits::serve_stream;
-use crate::watching::Watches;
+use crate::watcher::Watches;
 use crate::{Gate, Keeps};
 use crossbeam_channel::Receiver;
 use ll_client::Shape;

@@ -36,11 +36,11 @@ use Rattle.ll_journal.specs.declared.open_file.Unmade.{Unmade}
 use Rattle.ll_journal.specs.declared.open_file.Unmade.TheVariants as unmade
 use Rattle.ll_journal.specs.SlotTree.{accounts_of}
 use Rattle.ll_journal.proofs.Granted.{none_refuses}
-use Rattle.ll_steps.specs.Calling.{Calls, Waits, alone, waits}
+use Rattle.ll_steps.specs.CallOutcomes.{Calls, Waits, alone, waits}
 use Rattle.ll_steps.specs.Contents.{answered_as, IsKept}
 use Rattle.ll_steps.specs.Makes.{Makes, starved}
 use Rattle.ll_steps.specs.declared.report.Report.TheVariants as report
-use Rattle.ll_steps.proofs.Adding.{replied_makes, full_told}
+use Rattle.ll_steps.proofs.AddedEntries.{replied_makes, full_told}
 use Rattle.ll_steps.proofs.ContentsKept.{kept_on, kept_alone, kept_same, same_accounts}
 use Rattle.ll_steps.proofs.LentContents.{put_one}
 

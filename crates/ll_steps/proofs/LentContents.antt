@@ -21,7 +21,7 @@ use Rattle.ll_journal.specs.declared.onward.Onward.{Onward}
 use Rattle.ll_seq.specs.declared.call.Call.{Call}
 use Rattle.ll_steps.specs.Contents.{IsHint, held_at}
 use Rattle.ll_steps.proofs.ContentsKept.{account_at, length_accounts, filled_so}
-use Rattle.ll_steps.proofs.Trading.{elsewhere}
+use Rattle.ll_steps.proofs.TradedSlots.{elsewhere}
 
 -- what is lent of slots of these numbers
 pub lent_accounts : (b : Book) (slots : List Held) (ks : List ℕ) → slots ≡ accounts_of b

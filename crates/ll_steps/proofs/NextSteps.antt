@@ -24,14 +24,14 @@ use Rattle.ll_journal.specs.Stations.{station_at, station_in, station_of}
 use Rattle.ll_journal.specs.Steps.{IsNext}
 use Rattle.ll_journal.specs.declared.station.Station.{Station}
 use Rattle.ll_journal.specs.declared.station.Station.TheVariants as station
-use Rattle.ll_journal.proofs.Advancing.{commit_none, commit_not_now, descend_none, descend_stale, may_commit_on_the_way}
-use Rattle.ll_journal.proofs.Advancing.{may_commit_stale}
-use Rattle.ll_steps.specs.Calling.{IsStuck, Leads, Waits, answered, waits}
+use Rattle.ll_journal.proofs.Advances.{commit_none, commit_not_now, descend_none, descend_stale, may_commit_on_the_way}
+use Rattle.ll_journal.proofs.Advances.{may_commit_stale}
+use Rattle.ll_steps.specs.CallOutcomes.{IsStuck, Leads, Waits, answered, waits}
 use Rattle.ll_steps.specs.Left.{StepsOn}
 use Rattle.ll_steps.specs.Makes.{Makes}
 use Rattle.ll_steps.specs.declared.report.Report.{Report}
 use Rattle.ll_steps.specs.declared.report.Report.TheVariants as report
-use Rattle.ll_steps.proofs.Nearing.{after_descent, after_fork, after_restart}
+use Rattle.ll_steps.proofs.Nearness.{after_descent, after_fork, after_restart}
 use Rattle.ll_steps.proofs.StepKinds.{forks, restarts, stands, waits_so}
 use Rattle.ll_steps.proofs.WalkMakes.{commit_nowhere, goes_further}
 

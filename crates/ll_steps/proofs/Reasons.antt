@@ -25,9 +25,9 @@ use Rattle.ll_laws.specs.World.{World, Outcome, NotNow, Begun, Stands, Forked, R
 use Rattle.ll_laws.specs.World.{commit, descend, domain_of, enter, fork, is_alone, is_idle, is_marked}
 use Rattle.ll_laws.specs.World.{is_marked_by_other, is_on_descriptor, is_walked, last_nodes, may_commit, restart}
 use Rattle.ll_laws.specs.World.{shown, stand, takes_gate, with_walk}
-use Rattle.ll_journal.proofs.Advancing.{commit_none, commit_not_now, descend_none, descend_stale, direct_not_now}
-use Rattle.ll_journal.proofs.Advancing.{may_commit_marked, may_commit_stale}
-use Rattle.ll_steps.specs.Calling.{Waits}
+use Rattle.ll_journal.proofs.Advances.{commit_none, commit_not_now, descend_none, descend_stale, direct_not_now}
+use Rattle.ll_journal.proofs.Advances.{may_commit_marked, may_commit_stale}
+use Rattle.ll_steps.specs.CallOutcomes.{Waits}
 use Rattle.ll_steps.specs.Unmet.{IsMarkedBy, IsUnmet, IsUnmetBegin, IsUnmetCall, IsUnmetCommit, IsUnmetDescent}
 use Rattle.ll_steps.specs.Unmet.{IsUnmetFork, IsUnmetRestart, IsUnmetWalk, IsWhyNot}
 use Rattle.ll_steps.specs.declared.unmet.Unmet.{Unmet}

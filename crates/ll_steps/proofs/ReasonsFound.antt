@@ -28,7 +28,7 @@ use Rattle.ll_journal.specs.Stations.{station_at, station_in}
 use Rattle.ll_journal.specs.Steps.{GoesDown, IsNext, leg_in_turn}
 use Rattle.ll_journal.specs.declared.station.Station.{Station}
 use Rattle.ll_journal.specs.declared.station.Station.TheVariants as station
-use Rattle.ll_journal.proofs.Advancing.{may_commit_at_ends, may_commit_blocked}
+use Rattle.ll_journal.proofs.Advances.{may_commit_at_ends, may_commit_blocked}
 use Rattle.ll_journal.proofs.LentAfter.{inode_is}
 use Rattle.ll_journal.proofs.MarkOf.{are_clients, is_marked_is, mark_found}
 use Rattle.ll_journal.proofs.MarkOf.{whose_mark}

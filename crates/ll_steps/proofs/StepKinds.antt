@@ -14,9 +14,9 @@ use Rattle.ll_laws.specs.World.{advance}
 use Rattle.ll_laws.proofs.Shapes.{entered, may_hold, restarted, stood, walking}
 use Rattle.ll_steps.specs.declared.report.Report.{Report}
 use Rattle.ll_steps.specs.declared.report.Report.TheVariants as report
-use Rattle.ll_steps.specs.Calling.{Waits, Leads, Calls, walks}
+use Rattle.ll_steps.specs.CallOutcomes.{Waits, Leads, Calls, walks}
 use Rattle.ll_steps.specs.Makes.{Makes}
-use Rattle.ll_steps.proofs.Adding.{unchanged}
+use Rattle.ll_steps.proofs.AddedEntries.{unchanged}
 
 abbrev may_fork : world.Outcome → Bool
 may_fork world.NotNow = true

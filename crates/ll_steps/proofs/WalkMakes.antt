@@ -37,12 +37,12 @@ use Rattle.ll_journal.specs.declared.progress.Progress.TheVariants as tells
 use Rattle.ll_journal.specs.Stations.{station_at, station_of, station_in}
 use Rattle.ll_journal.specs.declared.station.Station.TheVariants as station
 use Rattle.ll_journal.specs.SlotTree.{accounts_of}
-use Rattle.ll_journal.proofs.Advancing.{descend_none, descend_stale, commit_none, commit_not_now}
+use Rattle.ll_journal.proofs.Advances.{descend_none, descend_stale, commit_none, commit_not_now}
 use Rattle.ll_journal.proofs.Starved.{starved_walk}
 use Rattle.ll_journal.proofs.NextSteps.{no_turn}
 use Rattle.ll_steps.specs.Contents.{held_at, ended_as, IsKept}
 use Rattle.ll_steps.specs.Makes.{Makes}
-use Rattle.ll_steps.proofs.Adding.{replied_makes, full_told}
+use Rattle.ll_steps.proofs.AddedEntries.{replied_makes, full_told}
 use Rattle.ll_steps.proofs.ContentsKept.{kept_on, does_advance}
 use Rattle.ll_steps.proofs.LentContents.{put_back}
 

@@ -16,7 +16,7 @@ use Rattle.ll_wire.specs.Transcript.{Transcript, Writes}
 use Rattle.ll_laws.specs.World.{World}
 use Rattle.ll_wire.proofs.WrittenText.{appends-more, appends-none, front-more}
 use Rattle.ll_wire.specs.Grammar.{reply_tokens}
-use Rattle.ll_wire.specs.Writing.{AppendsFront}
+use Rattle.ll_wire.specs.WriterGains.{AppendsFront}
 use Rattle.ll_wire.specs.Pieces.{pieces}
 use Rattle.ll_steps.specs.declared.halt.Halt.{Halt}
 use Rattle.ll_steps.specs.declared.halt.Pace.{Pace}

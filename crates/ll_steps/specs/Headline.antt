@@ -7,7 +7,7 @@ use Rattle.ll_seq.specs.State.{start}
 use Rattle.ll_seq.specs.History.{IsLegal}
 use Rattle.ll_laws.specs.declared.step.Step.{Step}
 use Rattle.ll_laws.specs.World.{World}
-use Rattle.ll_laws.specs.Growing.{Came}
+use Rattle.ll_laws.specs.Growth.{Came}
 use Rattle.ll_laws.specs.Walks.{AreValid, AreApart, AreFew, GateIsHeld}
 use Rattle.ll_steps.specs.declared.report.Report.{Report}
 use Rattle.ll_steps.specs.Makes.{Makes, Adds}

@@ -8,7 +8,7 @@ use Rattle.ll_seq.specs.Call.{first_path, second_path}
 use Rattle.ll_laws.specs.Walk.{Walk, Position, Above, Down, Split, trunk_path}
 use Rattle.ll_laws.specs.World.{World}
 use Rattle.ll_laws.specs.declared.step.Step.TheVariants.{Commit}
-use Rattle.ll_steps.specs.Calling.{GoesOn, Leads, Waits}
+use Rattle.ll_steps.specs.CallOutcomes.{GoesOn, Leads, Waits}
 use Rattle.ll_steps.specs.declared.report.Report.{Report}
 
 -- the most steps past the fork, including the fork

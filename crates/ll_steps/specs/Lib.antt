@@ -1,4 +1,4 @@
-pub mod Calling
+pub mod CallOutcomes
 pub mod Contents
 pub mod Headline
 pub mod Left

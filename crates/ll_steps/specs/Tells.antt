@@ -12,7 +12,7 @@ use Rattle.ll_steps.specs.declared.report.Report.{Report}
 use Rattle.ll_steps.specs.declared.report.Report.TheVariants.{NotNow, Begun, Stands, Forked, Restarted, Joined}
 use Rattle.ll_steps.specs.declared.report.Report.TheVariants.{Replied, Refused}
 use Rattle.ll_steps.specs.Makes.{Makes}
-use Rattle.ll_steps.specs.Calling.{Calls}
+use Rattle.ll_steps.specs.CallOutcomes.{Calls}
 use Rattle.ll_wire.specs.Grammar.{line_of, reply_tokens, reply_line}
 use Rattle.ll_wire.specs.ScheduleLines.{SpellsScheduleLine, client_in, line_holds_text}
 use Rattle.ll_wire.specs.declared.schedule.ScheduleLine.{ScheduleLine}

@@ -23,7 +23,7 @@ fn answered(number: u64, answer: Made) -> Report
 
 impl World {
     ghost use Rattle.ll_laws.specs.declared.step.Step.TheVariants as steps;
-    ghost use Rattle.ll_steps.specs.Calling.{Calls, Waits};
+    ghost use Rattle.ll_steps.specs.CallOutcomes.{Calls, Waits};
     ghost use Rattle.ll_steps.specs.Makes.{Makes};
 
     /// Connects a new client.

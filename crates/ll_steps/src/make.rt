@@ -2,7 +2,7 @@
 
 ghost use Rattle.std.specs.Prelude.{◌≡◌, ◌≢◌, ◌<◌, length, IfNone, IfSome};
 ghost use Rattle.ll_journal.specs.Steps.{IsInTurn};
-ghost use Rattle.ll_steps.specs.Calling.{Calls, Leads};
+ghost use Rattle.ll_steps.specs.CallOutcomes.{Calls, Leads};
 ghost use Rattle.ll_steps.specs.Contents.{IsKept};
 ghost use Rattle.ll_steps.specs.Headline.{IsLawful};
 ghost use Rattle.ll_steps.specs.Left.{StepsOn};

@@ -2,12 +2,12 @@
 
 ghost use Rattle.std.specs.Prelude.{◌≡◌, ◌≢◌, ◌<◌, ◌^◌, ℕ, suc, List, Err, IfErr, IfOk, OnErr, OnOk};
 ghost use Rattle.std.specs.Io.KnownBytes.{Appends};
-ghost use Rattle.ll_wire.specs.Cutting.{Holds};
+ghost use Rattle.ll_wire.specs.LineCuts.{Holds};
 ghost use Rattle.ll_wire.specs.Devices.{IsWhole};
 ghost use Rattle.ll_wire.specs.Reached.{Blames};
 ghost use Rattle.ll_wire.specs.declared.fault.SessionFault.{SessionFault};
 ghost use Rattle.ll_wire.specs.Grammar.{IsReply};
-ghost use Rattle.ll_wire.specs.Writing.{AppendsFront};
+ghost use Rattle.ll_wire.specs.WriterGains.{AppendsFront};
 ghost use Rattle.ll_steps.specs.Pace.{end_text, first_pace, noted};
 ghost use Rattle.ll_steps.specs.Tells.{Answers, Does};
 ghost use Rattle.ll_steps.specs.Told.{last_line, opened};

@@ -10,7 +10,7 @@ use Rattle.ll_journal.specs.declared.next.Next.TheVariants as next
 use Rattle.ll_journal.specs.NextStep.{CanBeLent, IsNamed}
 use Rattle.ll_journal.specs.declared.progress.Progress.{Progress}
 use Rattle.ll_journal.specs.declared.progress.Progress.TheVariants as progress
-use Rattle.ll_client.specs.Coming.{place_after}
+use Rattle.ll_client.specs.CallStart.{place_after}
 use Rattle.ll_client.specs.Entries.{Kept}
 use Rattle.ll_walk.specs.declared.held.Branch.{Branch}
 use Rattle.ll_walk.specs.Sections.{AreThere, IsReady, leg_at}

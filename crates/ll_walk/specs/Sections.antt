@@ -11,7 +11,7 @@ use Rattle.ll_journal.specs.declared.next.Next.TheVariants as next
 use Rattle.ll_journal.specs.Book.{Book, Spares}
 use Rattle.ll_journal.specs.NextStep.{IsNamed}
 use Rattle.ll_client.specs.Entries.{Kept, Knows}
-use Rattle.ll_client.specs.Coming.{kept_by, kept_numbers}
+use Rattle.ll_client.specs.CallStart.{kept_by, kept_numbers}
 use Rattle.ll_client.specs.Gains.{Gains}
 use Rattle.ll_journal.specs.declared.direct.Made.TheVariants as made
 use Rattle.ll_client.specs.declared.left.Left.{Left}

@@ -8,7 +8,7 @@ ghost use Rattle.ll_seq.specs.declared.reply.Entry.{Entry};
 ghost use Rattle.ll_seq.specs.declared.call.Call.TheVariants as calls;
 ghost use Rattle.ll_seq.specs.declared.reply.Reply.TheVariants as replies;
 ghost use Rattle.ll_laws.specs.World as world;
-ghost use Rattle.ll_client.specs.Coming.{HasNoPlace, childless, knows_full};
+ghost use Rattle.ll_client.specs.CallStart.{HasNoPlace, childless, knows_full};
 ghost use Rattle.ll_client.specs.Entries.{knows, numbered};
 ghost use Rattle.ll_client.specs.Gains.{Gains, Told};
 

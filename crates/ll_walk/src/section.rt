@@ -13,7 +13,7 @@ ghost use Rattle.ll_journal.specs.NextStep.{CanBeLent, ComesNext};
 ghost use Rattle.ll_journal.specs.Stations.{Names};
 ghost use Rattle.ll_journal.specs.Steps.{Does};
 ghost use Rattle.ll_laws.specs.declared.step.Step.TheVariants.{Descend, Fork};
-ghost use Rattle.ll_client.specs.Coming.{place_after};
+ghost use Rattle.ll_client.specs.CallStart.{place_after};
 ghost use Rattle.ll_walk.specs.Sections.{IsReady, Shows};
 ghost use Rattle.ll_seq.specs.declared.call.Call.{Call};
 ghost use Rattle.ll_seq.specs.History.{IsLegal};

@@ -30,11 +30,11 @@ use Rattle.ll_why.specs.Reasons.{AreAsked, chain_of, kept_number}
 use Rattle.ll_why.specs.Rights.{meant}
 use Rattle.ll_why.specs.declared.asks.Asks.{Asks}
 use Rattle.ll_why.specs.declared.change.LayerChange.{LayerChange}
-use Rattle.ll_why.proofs.Accepting.{holds_taken, holds_within, taken_holds}
-use Rattle.ll_why.proofs.Choosing.{found_first, found_passes, found_within, none_passes}
+use Rattle.ll_why.proofs.AcceptedRules.{holds_taken, holds_within, taken_holds}
+use Rattle.ll_why.proofs.FirstChoice.{found_first, found_passes, found_within, none_passes}
 use Rattle.ll_why.proofs.Denials.{AreWilling, allows_willing, denies_same, no_denial, willing_allows}
-use Rattle.ll_why.proofs.Judging.{judged_so}
-use Rattle.ll_why.proofs.Ruling.{changed_grants}
+use Rattle.ll_why.proofs.PolicyAnswers.{judged_so}
+use Rattle.ll_why.proofs.RuledLayers.{changed_grants}
 
 or_true : (b : Bool) → (b || true) ≡ true
 or_true true = refl

@@ -3,7 +3,7 @@ use Rattle.std.proofs.Common.{◌≡◌, ℕ, Bool, true, false, List, [], ◌�
 use Rattle.std.proofs.Common.{append_assoc, if◌then◌else◌}
 use Rattle.std.proofs.lemmas.List.{append-nil}
 use Rattle.ll_seq.specs.declared.reply.Entry.{Entry}
-use Rattle.ll_why.specs.Opening.{Openings, is_spawned, opened_after, opened_by, openings, opens}
+use Rattle.ll_why.specs.Opener.{Openings, is_spawned, opened_after, opened_by, openings, opens}
 
 more_by : (known : Openings) (es xs : List Entry) (e : Entry) (client fd : ℕ)
     → opened_by known es (xs ++ e ∷ []) client fd ≡ opened_after (opened_by known es xs) (es ++ xs) e client fd

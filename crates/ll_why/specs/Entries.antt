@@ -13,7 +13,7 @@ use Rattle.ll_wire.specs.declared.header.Header.{Header}
 use Rattle.ll_audit.specs.Saved.{IsFirstBad, Tell, opened}
 use Rattle.ll_why.specs.EntryJson.{entry_json}
 use Rattle.ll_why.specs.Explained.{IsExplained}
-use Rattle.ll_why.specs.Opening.{IsOpeningText, opening_behind}
+use Rattle.ll_why.specs.Opener.{IsOpeningText, opening_behind}
 use Rattle.ll_why.specs.Told.{told_text}
 use Rattle.ll_why.specs.declared.entry.Standing.{Standing}
 use Rattle.ll_why.specs.declared.entry.Standing.TheVariants.{Stands, NoCaller, Answers}

@@ -7,7 +7,7 @@ pub mod EntryJson
 pub mod Explained
 pub mod Grants
 pub mod Names
-pub mod Opening
+pub mod Opener
 pub mod PathRows
 pub mod Places
 pub mod Quoted

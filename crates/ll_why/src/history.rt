@@ -10,7 +10,7 @@ ghost use Rattle.ll_why.specs.Entries.{IsEntryWhy, IsHistoryWhy, IsStanding, IsT
 
 use crate::WhyStyle;
 use crate::entry::{EntryTold, Standing, answer_at, entry_text, explain_at, standing_line};
-use crate::opening::opening_of;
+use crate::opener::opening_of;
 use crate::tree::{open, tree_after};
 use ll_audit::{AuditFault, ReadFault, Saved, follow};
 use ll_plain::Plain;

@@ -16,7 +16,7 @@ mod grants;
 mod history;
 mod layers;
 mod layers_json;
-mod opening;
+mod opener;
 mod path_rows;
 mod paths;
 mod places;

@@ -8,11 +8,11 @@ use Rattle.std.proofs.lemmas.List.{append-nil}
 use Rattle.ll_wire.specs.Devices.{Devices}
 use Rattle.ll_wire.specs.Pieces.{pieces}
 use Rattle.ll_wire.proofs.WrittenText.{appends-none}
-use Rattle.ll_wire.specs.Cutting.{Cuts, Holds, IsLeft, IsTold, Reading, TellsFront, TellsFrontOf, TellsMore, TellsOn}
-use Rattle.ll_wire.specs.Cutting.{unread}
+use Rattle.ll_wire.specs.LineCuts.{Cuts, Holds, IsLeft, IsTold, Reading, TellsFront, TellsFrontOf, TellsMore, TellsOn}
+use Rattle.ll_wire.specs.LineCuts.{unread}
 use Rattle.ll_wire.specs.Transcript.{Transcript}
 use Rattle.ll_wire.specs.Reached.{AnswersAll, AnswersFirst, AnswersSome, StartsAll}
-use Rattle.ll_wire.specs.Settling.{TellsStill}
+use Rattle.ll_wire.specs.SettledAnswers.{TellsStill}
 use Rattle.ll_wire.proofs.LeftToRead.{at_last, at_start, none_of}
 
 pub on_err : {T E P : Type 0} → (r : Result T E) → P → OnErr r P

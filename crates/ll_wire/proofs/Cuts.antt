@@ -7,7 +7,7 @@ use Rattle.ll_wire.specs.Devices.{line_feeds}
 use Rattle.ll_wire.proofs.FeedsInParts.{feeds-append}
 use Rattle.ll_wire.specs.Pieces.{pieces}
 use Rattle.ll_wire.proofs.CutStreams.{IsOpen, open-append, pieces-last, pieces-line}
-use Rattle.ll_wire.specs.Cutting.{Cuts, Gives, Holds}
+use Rattle.ll_wire.specs.LineCuts.{Cuts, Gives, Holds}
 
 some_at : (b rest : Bool) (n : ℕ) → (rest ≡ true → 1 ≤ n) → (b || rest) ≡ true → 1 ≤ cond b 1 0 + n
 some_at true rest n more any = omega arith

@@ -4,7 +4,7 @@ use Rattle.std.proofs.Common.{length-drop, length-take-le, take, Option, None, S
 use Rattle.std.specs.Io.KnownBytes.{Consumes}
 use Rattle.std.proofs.lemmas.List.{drop_all, length-append}
 use Rattle.std.proofs.Math.Nat.{pos_of_ne-zero}
-use Rattle.ll_wire.specs.Cutting.{Counts, IsLeft, Reading, unread}
+use Rattle.ll_wire.specs.LineCuts.{Counts, IsLeft, Reading, unread}
 
 -- a read gave these bytes of what was left to read
 gave : (old new : Option (List ℕ)) (left bytes : List ℕ) → old ≡ Some left → Consumes old new bytes

@@ -24,7 +24,7 @@ pub mod Rights
 pub mod ScheduleTokens
 pub mod Sizes
 pub mod Targets
-pub mod Telling
 pub mod Tokens
+pub mod ToldParts
 pub mod Unique
 pub mod WrittenText

@@ -3,10 +3,10 @@ use Rattle.std.specs.Prelude.{◌≡◌, ◌+◌, ℕ, List, [], ◌++◌, Some,
 use Rattle.std.specs.Io.KnownBytes.{Appends}
 use Rattle.ll_wire.specs.Devices.{Devices, IsWhole}
 use Rattle.ll_wire.specs.Pieces.{pieces}
-use Rattle.ll_wire.specs.Writing.{AppendsFront}
+use Rattle.ll_wire.specs.WriterGains.{AppendsFront}
 use Rattle.ll_wire.specs.declared.fault.SessionFault.{SessionFault}
 use Rattle.ll_wire.specs.declared.fault.SessionFault.TheVariants.{Read, Write, NoMemory, TooLong}
-use Rattle.ll_wire.specs.Cutting.{IsLeft, IsTold, Reading}
+use Rattle.ll_wire.specs.LineCuts.{IsLeft, IsTold, Reading}
 use Rattle.ll_wire.specs.Transcript.{Transcript, most_reads}
 
 -- Why a call with many reads and writes ends early. Read, Write: that device failed during the call. NoMemory: both are

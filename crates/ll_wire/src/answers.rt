@@ -3,7 +3,7 @@
 ghost use Rattle.std.specs.Prelude.{◌≡◌, ◌<◌, ◌≤◌, ◌+◌, ◌^◌, ℕ, Bool, true, false, List, Some, Err, IfErr, IfOk};
 ghost use Rattle.std.specs.Prelude.{OnErr, OnOk, length, string_bytes};
 ghost use Rattle.ll_wire.specs.Devices.{IsWhole, line_feeds};
-ghost use Rattle.ll_wire.specs.Cutting.{Holds};
+ghost use Rattle.ll_wire.specs.LineCuts.{Holds};
 ghost use Rattle.ll_wire.specs.Reached.{AnswersAll, AnswersFirst, Blames, StartsAll};
 ghost use Rattle.ll_wire.specs.Transcript.{most_reads};
 ghost use Rattle.ll_wire.specs.declared.fault.SessionFault.{SessionFault};

@@ -6,10 +6,10 @@ ghost use Rattle.std.specs.Prelude.{MatchOption, Err, IsTrue};
 ghost use Rattle.std.specs.Prelude.{Option, ◌+◌};
 ghost use Rattle.std.specs.Io.KnownBytes.{Appends};
 ghost use Rattle.ll_wire.specs.Devices.{IsWhole, Took, TookNone, line_feeds};
-ghost use Rattle.ll_wire.specs.Writing.{AppendsFront};
-ghost use Rattle.ll_wire.specs.Cutting.{Calls, CanGoOn, Counts, Cuts, Faults, Gives, IsLeft, TellsFront, TellsFrontOf};
-ghost use Rattle.ll_wire.specs.Cutting.{IsSilent, IsTold, TellsMore, TellsOn, feeds_of, most_left, unread};
-ghost use Rattle.ll_wire.specs.Settling.{Settles};
+ghost use Rattle.ll_wire.specs.WriterGains.{AppendsFront};
+ghost use Rattle.ll_wire.specs.LineCuts.{Calls, CanGoOn, Counts, Cuts, Faults, Gives, IsLeft, TellsFront, TellsFrontOf};
+ghost use Rattle.ll_wire.specs.LineCuts.{IsSilent, IsTold, TellsMore, TellsOn, feeds_of, most_left, unread};
+ghost use Rattle.ll_wire.specs.SettledAnswers.{Settles};
 ghost use Rattle.ll_wire.specs.Transcript.{most_reads};
 ghost use Rattle.ll_wire.specs.declared.fault.SessionFault.{SessionFault};
 
@@ -41,7 +41,7 @@ pub struct Exchange {
 
 impl Model for Exchange {
     ghost use Rattle.std.specs.Prelude.{◌≡◌, ◌≤◌, drop, take, length};
-    ghost use Rattle.ll_wire.specs.Cutting.{Reading};
+    ghost use Rattle.ll_wire.specs.LineCuts.{Reading};
     ghost use Rattle.ll_wire.specs.Transcript.{most_reads};
 
     ghost Value = { Reading };

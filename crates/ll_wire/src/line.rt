@@ -1,7 +1,7 @@
 //! The line that is being read.
 
 ghost use Rattle.std.specs.Prelude.{◌≡◌, [], ◌∷◌, ◌++◌, ◌↔◌, ℕ, List, IfOk, IsTrue, Some, option_map};
-ghost use Rattle.ll_wire.specs.Cutting.{Holds};
+ghost use Rattle.ll_wire.specs.LineCuts.{Holds};
 
 use crate::LINE_LIMIT;
 use std::alloc::{AllocError, Global};

@@ -3,7 +3,7 @@
 ghost use Rattle.std.specs.Prelude.{◌≡◌, IfErr, OnErr, OnOk};
 ghost use Rattle.std.specs.Io.KnownBytes.{Appends};
 ghost use Rattle.ll_wire.specs.Devices.{IsWhole, KeepsInput, Took, TookNone};
-ghost use Rattle.ll_wire.specs.Writing.{AppendsFront};
+ghost use Rattle.ll_wire.specs.WriterGains.{AppendsFront};
 ghost use Rattle.ll_wire.specs.declared.fault.SessionFault.{SessionFault};
 
 use crate::fault::SessionFault;

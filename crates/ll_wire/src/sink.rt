@@ -2,7 +2,7 @@
 
 ghost use Rattle.std.specs.Prelude.{◌≡◌, false, OnOk, OnErr};
 ghost use Rattle.std.specs.Io.KnownBytes.{Appends};
-ghost use Rattle.ll_wire.specs.Writing.{AppendsFront};
+ghost use Rattle.ll_wire.specs.WriterGains.{AppendsFront};
 ghost use Rattle.ll_wire.specs.Devices.{Took, TookNone};
 
 use crate::ends::{Broken, Ends};

@@ -4,7 +4,7 @@
 recorded. It decides nothing about rights: `landtree learn` does that, from the checks.
 """
 
-from .converting import Converted, convert
+from .conversion import Converted, convert
 from .recording import Recording, record
 
 __all__ = ["Converted", "Recording", "convert", "record"]

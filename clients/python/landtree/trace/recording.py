@@ -21,7 +21,7 @@ from ..errors import Fault
 from ..values import Rights
 from .files import write_all
 from .inventory import Entry, Inventory, inventory_of
-from .reading import TRACED
+from .reader import TRACED
 
 FORM = 1
 # From 5.3 on strace has --seccomp-bpf, without which a program that opens many files is ten times slower.

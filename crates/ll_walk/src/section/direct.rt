@@ -9,7 +9,7 @@ ghost use Rattle.ll_laws.specs.World.{Joined, Replied, World, advance, next_numb
 ghost use Rattle.ll_laws.specs.declared.step.Step.TheVariants.{ClientStep, FdCommit, Join};
 ghost use Rattle.ll_journal.specs.Book.{inode_in};
 ghost use Rattle.ll_journal.specs.Direct.{Answers, ComesBack, IsOpen, Starts};
-ghost use Rattle.ll_client.specs.Coming.{HasNoPlace, SetsOut, childless, is_at_full, knows_full};
+ghost use Rattle.ll_client.specs.CallStart.{HasNoPlace, SetsOut, childless, is_at_full, knows_full};
 ghost use Rattle.ll_client.specs.Entries.{knows, numbered};
 ghost use Rattle.ll_client.specs.Gains.{Gains, Told};
 ghost use Rattle.ll_walk.specs.Sections.{Shows};

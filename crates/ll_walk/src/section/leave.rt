@@ -3,7 +3,7 @@
 ghost use Rattle.std.specs.Prelude.{◌≡◌, ◌<◌, ◌∷◌, length};
 ghost use Rattle.std.specs.Sync.Mutex.{mutex_guard_value};
 ghost use Rattle.ll_client.specs.declared.lent.TheConstants.{LENT_SLOTS};
-ghost use Rattle.ll_client.specs.Coming.{kept_numbers, stacked};
+ghost use Rattle.ll_client.specs.CallStart.{kept_numbers, stacked};
 ghost use Rattle.ll_client.specs.Gains.{Goes, IsLeft};
 ghost use Rattle.ll_walk.specs.Sections.{Shows};
 

@@ -2,8 +2,8 @@ use Rattle.std.proofs.Common.{◌≡◌, ℕ, List, Option, IfErr, IfSome, Resul
 use Rattle.std.specs.Prelude.{OnOk}
 use Rattle.ll_program.specs.Options.{ServeOrder, served_in}
 use Rattle.ll_program.specs.declared.failure.Failure.{Failure}
-use Rattle.ll_commands.specs.Serving as serving
-use Rattle.ll_commands.specs.Serving.{IsDone}
+use Rattle.ll_commands.specs.Service as serving
+use Rattle.ll_commands.specs.Service.{IsDone}
 use Rattle.landtree.proofs.Runs.{policy_text}
 use Rattle.landtree.proofs.commands.serve_port.Goals as goal
 

@@ -1,10 +1,10 @@
 use Rattle.std.proofs.Common.{◌∙◌, ◌≡◌, ◌++◌, ℕ, List, ap, inr, map, refl, subst}
-use Rattle.ll_wire.specs.Writing.{AppendsFront}
+use Rattle.ll_wire.specs.WriterGains.{AppendsFront}
 use Rattle.ll_program.specs.Options.{checked_in}
 use Rattle.ll_check.specs.Checks.{tests_of}
 use Rattle.ll_check.specs.Files.{AreChecked, end_of, source_of, style_of}
 use Rattle.ll_check.specs.Styles.{head, tail}
-use Rattle.ll_check.specs.declared.judging.Style.{Style}
+use Rattle.ll_check.specs.declared.reporter.Style.{Style}
 use Rattle.ll_check.proofs.checks.conclude.Goals as goal
 
 pub returns-clause-begun : goal.returns-clause-begun

@@ -1,4 +1,4 @@
-use Rattle.ll_check.proofs.Answering.{answers_fit, none_comes}
+use Rattle.ll_check.proofs.TreeAnswers.{answers_fit, none_comes}
 use Rattle.ll_check.proofs.possible.answers_fit.Goals as goal
 
 pub returns-clause-fit : goal.returns-clause-fit

@@ -1,6 +1,6 @@
 use Rattle.std.proofs.Common.{◌∙◌, length, sym}
 use Rattle.ll_program.specs.Options.{learn_in}
-use Rattle.ll_check.specs.declared.judging.Style.TheVariants.{Usual}
+use Rattle.ll_check.specs.declared.reporter.Style.TheVariants.{Usual}
 use Rattle.ll_check.specs.Checks.{tests_of}
 use Rattle.ll_check.proofs.Courses.{are_others, not_made}
 use Rattle.ll_check.proofs.Trials.{file_tried}

@@ -4,7 +4,7 @@ use Rattle.ll_journal.specs.Book.{Book}
 use Rattle.ll_laws.specs.declared.step.Step.TheVariants.{FdCommit}
 use Rattle.ll_client.specs.Entries.{AreAccounts, starved_in}
 use Rattle.ll_client.specs.Hands.{starved_if}
-use Rattle.ll_client.proofs.Starving.{GoOn, result_starves}
+use Rattle.ll_client.proofs.Starvation.{GoOn, result_starves}
 use Rattle.ll_client.proofs.direct.step_on_file.Goals as goal
 
 pub note_want-requires : goal.note_want-requires

@@ -2,7 +2,7 @@ use Rattle.std.proofs.Common.{◌≡◌, true, length, sym, subst, ◌∙◌}
 use Rattle.ll_journal.specs.Book.{Book}
 use Rattle.ll_client.specs.Entries.{AreAccounts, doing_of, starved_in}
 use Rattle.ll_client.specs.Hands.{starved_if}
-use Rattle.ll_client.proofs.Starving.{GoOn, left_starves}
+use Rattle.ll_client.proofs.Starvation.{GoOn, left_starves}
 use Rattle.ll_client.proofs.leave.leave_with.Goals as goal
 
 pub note_want-requires : goal.note_want-requires

@@ -4,7 +4,7 @@ use Rattle.std.proofs.lemmas.List.FromFn.{map-range_with_len_more}
 use Rattle.ll_rights.specs.Map.{Map, get}
 use Rattle.ll_rights.proofs.Maps.{get-empty}
 use Rattle.ll_client.specs.declared.account.Account.{Account}
-use Rattle.ll_client.specs.Coming.{kept_at}
+use Rattle.ll_client.specs.CallStart.{kept_at}
 use Rattle.ll_client.proofs.NewDesks.{none_out}
 use Rattle.ll_client.proofs.opened.new_slots.Goals as goal
 

@@ -1,7 +1,7 @@
 use Rattle.std.proofs.Common.{◌≡◌, ◌≤◌, ℕ, ◌*◌, None, map}
 use Rattle.std.specs.List.{range_with_len}
 use Rattle.ll_rights.specs.Map.{get}
-use Rattle.ll_client.specs.Coming.{kept_at}
+use Rattle.ll_client.specs.CallStart.{kept_at}
 use Rattle.ll_client.specs.Entries.{AreAccounts}
 use Rattle.ll_client.proofs.opened.new_slots.Given as goal
 

@@ -1,6 +1,6 @@
 use Rattle.std.proofs.Common.{length, ap, sym, ◌∙◌}
 use Rattle.std.proofs.lemmas.List.FromFn.{length-map-range_with_len}
-use Rattle.ll_client.specs.Coming.{kept_at}
+use Rattle.ll_client.specs.CallStart.{kept_at}
 use Rattle.ll_client.proofs.NewDesks.{count_slots, desk_new, first_slots}
 use Rattle.ll_client.proofs.opened.open.Goals as goal
 

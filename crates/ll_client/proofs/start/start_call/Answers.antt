@@ -3,7 +3,7 @@ use Rattle.ll_seq.specs.declared.call.Call.{Call}
 use Rattle.ll_journal.specs.Book.{Book}
 use Rattle.ll_client.specs.Entries.{AreAccounts, starved_in}
 use Rattle.ll_client.specs.Hands.{starved_if}
-use Rattle.ll_client.proofs.Starving.{GoOn, start_starves}
+use Rattle.ll_client.proofs.Starvation.{GoOn, start_starves}
 use Rattle.ll_client.proofs.start.start_call.Goals as goal
 
 pub note_want-requires : goal.note_want-requires

@@ -1,5 +1,5 @@
 use Rattle.ll_client.specs.Entries.{starved_in}
-use Rattle.ll_client.proofs.Starving.{noted}
+use Rattle.ll_client.proofs.Starvation.{noted}
 use Rattle.ll_client.proofs.want.note_want.Goals as goal
 
 pub returns-then-ran_out-clause-all : goal.returns-then-ran_out-clause-all

@@ -3,7 +3,7 @@ use Rattle.std.specs.List.{flat_map}
 use Rattle.std.proofs.lemmas.List.{append-nil, drop_all}
 use Rattle.ll_policy.specs.declared.profile.Rule.{Rule}
 use Rattle.ll_commands.specs.CProgram.{c_rule}
-use Rattle.ll_why.proofs.Growing.{came, from_element}
+use Rattle.ll_why.proofs.TextGrowth.{came, from_element}
 use Rattle.ll_commands.proofs.c_program.c_rules.Goals as goal
 
 pub loop-rule-preserved : goal.loop-rule-preserved

@@ -1,5 +1,5 @@
 use Rattle.std.proofs.Common.{◌≡◌, ◌+◌, List, ◌∷◌, drop, sym, subst, arith}
-use Rattle.ll_decide.proofs.Finding.{at_element}
+use Rattle.ll_decide.proofs.FirstDenial.{at_element}
 use Rattle.ll_seq.specs.declared.call.Call.{Call}
 use Rattle.ll_seq.specs.State.{State}
 use Rattle.ll_commands.specs.Why.{Follows}

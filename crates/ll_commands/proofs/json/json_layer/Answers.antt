@@ -5,7 +5,7 @@ use Rattle.std.proofs.lemmas.Result.{IfOk-weaker}
 use Rattle.ll_policy.specs.declared.profile.Rule.{Rule}
 use Rattle.ll_commands.specs.Json.{json_rule}
 use Rattle.ll_why.specs.Quoted.{json_names}
-use Rattle.ll_why.proofs.Growing.{joined_parts}
+use Rattle.ll_why.proofs.TextGrowth.{joined_parts}
 use Rattle.ll_commands.proofs.json.json_layer.Goals as goal
 
 pub returns : goal.returns

@@ -2,7 +2,7 @@ use Rattle.std.proofs.Common.{◌≡◌, codes, ap, ◌∙◌, map, string_bytes
 use Rattle.std.specs.declared.alloc.Global.{Global}
 use Rattle.std.proofs.lemmas.Result.{IfOk-weaker}
 use Rattle.ll_commands.specs.Json.{json_layer}
-use Rattle.ll_why.proofs.Growing.{joined_parts}
+use Rattle.ll_why.proofs.TextGrowth.{joined_parts}
 use Rattle.ll_commands.proofs.json.json_layers.Goals as goal
 
 pub returns : goal.returns

@@ -2,7 +2,7 @@ use Rattle.std.proofs.Common.{◌+◌, ◌++◌, List, drop, map, sym, ap, ◌�
 use Rattle.std.proofs.lemmas.List.{append-nil, drop_all}
 use Rattle.ll_policy.specs.declared.profile.Layer.{Layer}
 use Rattle.ll_commands.specs.Json.{json_layer}
-use Rattle.ll_why.proofs.Growing.{added, from_element}
+use Rattle.ll_why.proofs.TextGrowth.{added, from_element}
 use Rattle.ll_commands.proofs.json.layers_of.Goals as goal
 
 pub loop-layer-preserved : goal.loop-layer-preserved

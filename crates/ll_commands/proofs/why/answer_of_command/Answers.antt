@@ -5,7 +5,7 @@ use Rattle.ll_commands.specs.Why.{Follows}
 use Rattle.ll_commands.proofs.Spelled.{others}
 use Rattle.ll_program.specs.Options.{tree_in}
 use Rattle.ll_commands.proofs.Rows.{left}
-use Rattle.ll_commands.proofs.Failing.{by_opening, by_word}
+use Rattle.ll_commands.proofs.Failures.{by_opening, by_word}
 use Rattle.ll_commands.proofs.why.answer_of_command.Goals as goal
 
 pub returns-in_err-calls-clause-failure : goal.returns-in_err-calls-clause-failure

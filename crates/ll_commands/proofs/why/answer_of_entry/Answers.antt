@@ -1,6 +1,6 @@
 use Rattle.std.proofs.Common.{◌≡◌, Err, rules}
 use Rattle.ll_commands.proofs.Rows.{left}
-use Rattle.ll_commands.proofs.Failing.{by_file}
+use Rattle.ll_commands.proofs.Failures.{by_file}
 use Rattle.ll_commands.proofs.why.answer_of_entry.Goals as goal
 
 pub returns-in_err-bytes-clause-failure : goal.returns-in_err-bytes-clause-failure

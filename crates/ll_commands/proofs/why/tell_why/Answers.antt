@@ -2,7 +2,7 @@ use Rattle.std.specs.Prelude.{Err, refl}
 use Rattle.std.proofs.Common.{inl, ◌≡◌, rules}
 use Rattle.ll_program.specs.Options.{asked_by, why_in}
 use Rattle.ll_commands.specs.Why.{IsTold, LacksAnswer, answer_text, why_style}
-use Rattle.ll_commands.proofs.Failing.{lacks_memory}
+use Rattle.ll_commands.proofs.Failures.{lacks_memory}
 use Rattle.ll_commands.proofs.Written.{starved_or_broken}
 use Rattle.ll_commands.proofs.why.tell_why.Goals as goal
 

@@ -1,5 +1,5 @@
 use Rattle.std.proofs.Common.{rules}
-use Rattle.ll_journal.proofs.Spawning.{spawns}
+use Rattle.ll_journal.proofs.SpawnedClients.{spawns}
 use Rattle.ll_journal.proofs.direct.spawn.Goals as goal
 
 pub returns-clause-ok : goal.returns-clause-ok

@@ -14,8 +14,8 @@ use Rattle.ll_learn.specs.declared.fault.Unlearned.{Unlearned}
 use Rattle.ll_learn.specs.Learned.{BeginsSo, IsOpening, IsUnlearned}
 use Rattle.ll_learn.specs.Framed.{IsFrame, IsUnprofiled}
 use Rattle.ll_learn.proofs.Cuts.{there_at_cut}
-use Rattle.ll_learn.proofs.Framing.{learned, of_profile}
-use Rattle.ll_learn.proofs.Unlearning.{begins_at, of_err, of_one}
+use Rattle.ll_learn.proofs.Frames.{learned, of_profile}
+use Rattle.ll_learn.proofs.Hindrances.{begins_at, of_err, of_one}
 use Rattle.ll_learn.proofs.learned.learn.Goals as goal
 
 -- one that is lent is one

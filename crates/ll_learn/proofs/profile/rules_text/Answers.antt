@@ -3,7 +3,7 @@ use Rattle.std.specs.List.{flat_map}
 use Rattle.std.proofs.lemmas.List.{append-nil, drop_all}
 use Rattle.ll_learn.specs.declared.profile.LearnedRule.{LearnedRule}
 use Rattle.ll_learn.specs.Profile.{rule_text}
-use Rattle.ll_why.proofs.Growing.{came, from_element}
+use Rattle.ll_why.proofs.TextGrowth.{came, from_element}
 use Rattle.ll_learn.proofs.profile.rules_text.Goals as goal
 
 pub loop-rule-preserved : goal.loop-rule-preserved

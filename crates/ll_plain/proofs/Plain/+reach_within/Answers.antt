@@ -4,7 +4,7 @@ use Rattle.std.proofs.lemmas.Option.{slice_get_read}
 use Rattle.ll_rights.specs.declared.access.Access.{Access}
 use Rattle.ll_rights.specs.Map.{entries}
 use Rattle.ll_seq.specs.State.{State}
-use Rattle.ll_plain.specs.Reaching.{Found}
+use Rattle.ll_plain.specs.BoundedReach.{Found}
 use Rattle.ll_plain.proofs.Reaches.{Tried, found_all, skip_other, skip_nameless, taken}
 use Rattle.ll_plain.proofs.Plain.+reach_within.Goals as goal
 use Rattle.ll_plain.proofs.Plain.+reach_within.Goals.{in-Some, in_default}

@@ -1,4 +1,4 @@
-use Rattle.ll_plain.specs.Reaching.{Found}
+use Rattle.ll_plain.specs.BoundedReach.{Found}
 use Rattle.ll_plain.proofs.Reaches.{Tried}
 use Rattle.ll_plain.proofs.Plain.+reach_within.Given as goal
 

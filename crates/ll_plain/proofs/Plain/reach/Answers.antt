@@ -6,7 +6,7 @@ use Rattle.ll_rights.specs.Map.{entries}
 use Rattle.ll_rules.specs.Layer.{Layer}
 use Rattle.ll_seq.specs.State.{State}
 use Rattle.ll_seq.specs.Reach.{HasName, InReach}
-use Rattle.ll_plain.proofs.Granting.{nameless, are_reached}
+use Rattle.ll_plain.proofs.PathGrants.{nameless, are_reached}
 use Rattle.ll_plain.proofs.Plain.reach.Goals as goal
 
 pub returns-in_err-ruled-clause-unnamed : goal.returns-in_err-ruled-clause-unnamed

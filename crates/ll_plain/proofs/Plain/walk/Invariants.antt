@@ -1,6 +1,6 @@
 use Rattle.std.proofs.Common.{◌≡◌, ◌++◌}
 use Rattle.ll_path.specs.Path.{Path}
-use Rattle.ll_plain.specs.Walking.{IsWalk}
+use Rattle.ll_plain.specs.WalkPlace.{IsWalk}
 use Rattle.ll_plain.proofs.Plain.walk.Given as goal
 
 -- the names so far are those in front of what is left

@@ -1,6 +1,6 @@
 use Rattle.std.proofs.Common.{rules}
 use Rattle.ll_session.specs.Run.{refusal_in}
-use Rattle.ll_program.proofs.Stopping.{by_devices, moved, opened_there}
+use Rattle.ll_program.proofs.PerformedRuns.{by_devices, moved, opened_there}
 use Rattle.ll_program.proofs.program.perform.Goals as goal
 
 pub returns-clause-transcript : goal.returns-clause-transcript

@@ -3,7 +3,7 @@ use Rattle.ll_session.specs.Run.{refusal_in}
 use Rattle.ll_program.specs.Options.{order_in}
 use Rattle.ll_program.specs.Policy.{IsSaved}
 use Rattle.ll_program.proofs.Known.{lacking}
-use Rattle.ll_program.proofs.Stopping.{failing, has_opened}
+use Rattle.ll_program.proofs.PerformedRuns.{failing, has_opened}
 use Rattle.ll_program.proofs.program.run.Goals as goal
 
 pub returns-in_err-setup-clause-failure : goal.returns-in_err-setup-clause-failure

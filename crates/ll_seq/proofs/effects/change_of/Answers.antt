@@ -12,10 +12,10 @@ use Rattle.ll_seq.specs.CallParts.{done}
 use Rattle.ll_seq.specs.Stages.{missing, present, has_names, way_to, replace_refusals}
 use Rattle.ll_seq.specs.Tree.{named, inode_of, kind_at}
 use Rattle.ll_seq.proofs.effects.change_of.Goals as goal
-use Rattle.ll_seq.proofs.Fitting.{move_fits, rename_fits, link_fits, rule_fits}
+use Rattle.ll_seq.proofs.ChangesByKind.{move_fits, rename_fits, link_fits, rule_fits}
 use Rattle.ll_seq.proofs.Nearby.{renamed_near}
-use Rattle.ll_seq.proofs.Standing.{one_way, last_way, no_roots, not_refused, absent, has_room, holds, stands_there}
-use Rattle.ll_seq.proofs.Standing.{no_directory_goes, empty_goes}
+use Rattle.ll_seq.proofs.LastNames.{one_way, last_way, no_roots, not_refused, absent, has_room, holds, stands_there}
+use Rattle.ll_seq.proofs.LastNames.{no_directory_goes, empty_goes}
 use Rattle.ll_seq.proofs.Walked.{free_at, one_free, other_free}
 use Rattle.ll_seq.specs.Near.{nodes_of}
 

@@ -1,4 +1,4 @@
-use Rattle.ll_seq.proofs.Standing.{exchange_of_one}
+use Rattle.ll_seq.proofs.LastNames.{exchange_of_one}
 use Rattle.ll_seq.proofs.effects.exchanging.Goals as goal
 
 pub returns-then-first-second-clause-done : goal.returns-then-first-second-clause-done

@@ -5,7 +5,7 @@ use Rattle.ll_decide.specs.declared.demands.On.TheVariants.{Itself}
 use Rattle.ll_decide.specs.declared.denial.Denial.{Denial}
 use Rattle.ll_decide.specs.Demands.{ask_on}
 use Rattle.ll_seq.specs.Tree.{ancestors}
-use Rattle.ll_seq.proofs.Asking.{verdict_same}
+use Rattle.ll_seq.proofs.AskedLists.{verdict_same}
 use Rattle.ll_seq.proofs.effects.kept.Goals as goal
 use Rattle.ll_seq.specs.Demanded.{path_on}
 

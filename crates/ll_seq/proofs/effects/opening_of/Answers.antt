@@ -1,6 +1,6 @@
 use Rattle.ll_seq.specs.Call.{path_of}
-use Rattle.ll_seq.proofs.Fitting.{opening_fits}
-use Rattle.ll_seq.proofs.Standing.{one_way, not_named}
+use Rattle.ll_seq.proofs.ChangesByKind.{opening_fits}
+use Rattle.ll_seq.proofs.LastNames.{one_way, not_named}
 use Rattle.ll_seq.proofs.effects.opening_of.Goals as goal
 
 pub returns-clause-fits : goal.returns-clause-fits

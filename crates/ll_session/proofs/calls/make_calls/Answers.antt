@@ -2,7 +2,7 @@ use Rattle.std.proofs.Common.{◌∙◌, ◌+◌, ◌∷◌, [], ap, arith, leng
 use Rattle.std.proofs.lemmas.List.{length-append}
 use Rattle.std.proofs.lemmas.Iterator.Adapters.{YieldsList-from_vec}
 use Rattle.std.proofs.lemmas.Iterator.Consumers.{YieldsList-turn, YieldsList-end}
-use Rattle.ll_session.proofs.Coming.{makes_all, makes_none, makes_one, next_call, stops_here}
+use Rattle.ll_session.proofs.FirstComers.{makes_all, makes_none, makes_one, next_call, stops_here}
 use Rattle.ll_session.proofs.calls.make_calls.Goals as goal
 
 pub loop-call-init : goal.loop-call-init

@@ -1,5 +1,5 @@
 use Rattle.std.proofs.Common.{◌≡◌, ◌≤◌, length}
-use Rattle.ll_session.proofs.Coming.{MakesSome}
+use Rattle.ll_session.proofs.FirstComers.{MakesSome}
 use Rattle.ll_session.proofs.calls.make_calls.Given as goal
 
 abbrev pub invariant-loop-call : goal.invariant-loop-call

@@ -1,6 +1,6 @@
 use Rattle.std.proofs.Common.{sym, ◌∙◌, ◌≡◌}
 use Rattle.ll_session.specs.CallsRun.{RepliesTo}
-use Rattle.ll_session.specs.Opening.{Opens, Refuses, begun}
+use Rattle.ll_session.specs.FirstClients.{Opens, Refuses, begun}
 use Rattle.ll_session.specs.Progress.{without}
 use Rattle.ll_session.proofs.CallsRuns.{makes_them, refused_them}
 use Rattle.ll_session.proofs.Ways.{at_last, closes_here}

@@ -1,6 +1,6 @@
 use Rattle.std.proofs.Common.{map, arith}
 use Rattle.std.proofs.lemmas.List.{length-map}
-use Rattle.ll_session.proofs.Meeting.{meets_last, met_by_last, met_itself}
+use Rattle.ll_session.proofs.Meetings.{meets_last, met_by_last, met_itself}
 use Rattle.ll_session.proofs.clients.meet_all.Goals as goal
 
 pub returns-then-last-place : goal.returns-then-last-place

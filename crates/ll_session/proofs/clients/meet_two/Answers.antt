@@ -1,4 +1,4 @@
-use Rattle.ll_session.proofs.Meeting.{have_met}
+use Rattle.ll_session.proofs.Meetings.{have_met}
 use Rattle.ll_session.proofs.clients.meet_two.Goals as goal
 
 pub returns : goal.returns

@@ -5,7 +5,7 @@ use Rattle.ll_seq.specs.declared.reply.Entry.{Entry}
 use Rattle.ll_seq.specs.State.{start}
 use Rattle.ll_seq.specs.declared.rules.Rules.{Rules}
 use Rattle.ll_session.specs.declared.fault.RunFault.TheVariants.{Opening, Session}
-use Rattle.ll_session.specs.Opening.{Opens, Refuses, begun}
+use Rattle.ll_session.specs.FirstClients.{Opens, Refuses, begun}
 use Rattle.ll_session.specs.Progress.{RunsTo, StopsAt, without}
 use Rattle.ll_session.specs.Run.{BeginsBy, IsOpened, MayEnd, RunsAs, refusal_in}
 use Rattle.ll_session.proofs.Endings.{IfKnown, begins_by, begins_lines, if_err, may_begun, may_refused, nothing_done}

@@ -1,7 +1,7 @@
 use Rattle.std.proofs.Common.{subst, sym}
 use Rattle.ll_client.specs.Closed.{IsClosed}
 use Rattle.ll_wire.proofs.Advance.{on_err}
-use Rattle.ll_session.specs.Keeping.{AreKept}
+use Rattle.ll_session.specs.KeptHistory.{AreKept}
 use Rattle.ll_session.proofs.run.tell_refusal.Goals as goal
 
 pub tell_reply-ended-requires-clause-kept : goal.tell_reply-ended-requires-clause-kept

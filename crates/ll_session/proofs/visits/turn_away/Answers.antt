@@ -1,5 +1,5 @@
 use Rattle.std.proofs.Common.{subst, sym, ◌∙◌}
-use Rattle.ll_session.specs.Keeping.{AreKept}
+use Rattle.ll_session.specs.KeptHistory.{AreKept}
 use Rattle.ll_session.proofs.visits.turn_away.Goals as goal
 
 pub tell_reply-ended-requires-clause-kept : goal.tell_reply-ended-requires-clause-kept

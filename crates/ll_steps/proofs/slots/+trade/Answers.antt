@@ -1,4 +1,4 @@
-use Rattle.ll_steps.proofs.Trading.{taken, put_there, left_as_is}
+use Rattle.ll_steps.proofs.TradedSlots.{taken, put_there, left_as_is}
 use Rattle.ll_steps.proofs.slots.+trade.Goals as goal
 
 pub returns-clause-lent : goal.returns-clause-lent

@@ -7,7 +7,7 @@ use Rattle.ll_decide.specs.declared.demands.On.TheVariants.{Itself}
 use Rattle.ll_why.specs.Changes.{rule_on}
 use Rattle.ll_why.specs.WhyJson.{added_json}
 use Rattle.ll_why.specs.declared.grants.Ruled.{Ruled}
-use Rattle.ll_why.proofs.Growing.{came}
+use Rattle.ll_why.proofs.TextGrowth.{came}
 use Rattle.ll_why.proofs.additions_json.added_objects.Goals as goal
 
 pub loop-on-preserved : goal.loop-on-preserved

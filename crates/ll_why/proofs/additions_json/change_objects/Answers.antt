@@ -4,7 +4,7 @@ use Rattle.std.proofs.lemmas.List.{append-nil, drop_all}
 use Rattle.ll_why.specs.declared.change.LayerChange.{LayerChange}
 use Rattle.ll_why.specs.declared.grants.Ruled.{Ruled}
 use Rattle.ll_why.specs.WhyJson.{change_json}
-use Rattle.ll_why.proofs.Growing.{added}
+use Rattle.ll_why.proofs.TextGrowth.{added}
 use Rattle.ll_why.proofs.additions_json.change_objects.Goals as goal
 
 no_rule : Ruled

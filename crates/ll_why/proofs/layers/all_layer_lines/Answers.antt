@@ -3,7 +3,7 @@ use Rattle.std.specs.List.{enumerate_from, flat_map}
 use Rattle.std.proofs.lemmas.List.{append-nil, drop_all}
 use Rattle.ll_why.specs.declared.reason.LayerReason.{LayerReason}
 use Rattle.ll_why.specs.Told.{layer_lines}
-use Rattle.ll_why.proofs.Growing.{came, from_element}
+use Rattle.ll_why.proofs.TextGrowth.{came, from_element}
 use Rattle.ll_why.proofs.layers.all_layer_lines.Goals as goal
 
 pub loop-index-preserved : goal.loop-index-preserved

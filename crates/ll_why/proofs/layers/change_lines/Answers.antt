@@ -4,7 +4,7 @@ use Rattle.std.specs.List.{concat}
 use Rattle.std.proofs.lemmas.Result.{IfOk-weaker}
 use Rattle.ll_decide.specs.declared.demands.On.TheVariants.{Itself, Other, Left, Entered}
 use Rattle.ll_why.specs.Told.{added_line, rights_line}
-use Rattle.ll_why.proofs.Growing.{five}
+use Rattle.ll_why.proofs.TextGrowth.{five}
 use Rattle.ll_why.proofs.layers.change_lines.Goals as goal
 
 pub returns : goal.returns

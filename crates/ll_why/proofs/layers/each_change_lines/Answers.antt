@@ -4,7 +4,7 @@ use Rattle.std.proofs.lemmas.List.{append-nil, drop_all}
 use Rattle.ll_why.specs.declared.change.LayerChange.{LayerChange}
 use Rattle.ll_why.specs.declared.grants.Ruled.{Ruled}
 use Rattle.ll_why.specs.Told.{change_lines}
-use Rattle.ll_why.proofs.Growing.{came}
+use Rattle.ll_why.proofs.TextGrowth.{came}
 use Rattle.ll_why.proofs.layers.each_change_lines.Goals as goal
 
 no_rule : Ruled

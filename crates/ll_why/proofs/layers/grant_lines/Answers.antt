@@ -3,7 +3,7 @@ use Rattle.std.specs.List.{concat, enumerate_from, flat_map}
 use Rattle.std.proofs.lemmas.Result.{IfOk-weaker}
 use Rattle.ll_why.specs.declared.grants.Ruled.{Ruled}
 use Rattle.ll_why.specs.Told.{path_on, rights_line, rule_line}
-use Rattle.ll_why.proofs.Growing.{three}
+use Rattle.ll_why.proofs.TextGrowth.{three}
 use Rattle.ll_why.proofs.layers.grant_lines.Goals as goal
 
 pub returns : goal.returns

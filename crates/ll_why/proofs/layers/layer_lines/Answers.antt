@@ -4,7 +4,7 @@ use Rattle.std.specs.List.{concat, flat_map}
 use Rattle.std.proofs.lemmas.Result.{IfOk-weaker}
 use Rattle.ll_decide.specs.declared.demands.On.TheVariants.{Left, Entered}
 use Rattle.ll_why.specs.Told.{each_on, gain_line, on_lines}
-use Rattle.ll_why.proofs.Growing.{three}
+use Rattle.ll_why.proofs.TextGrowth.{three}
 use Rattle.ll_why.proofs.layers.layer_lines.Goals as goal
 
 pub returns : goal.returns

@@ -3,7 +3,7 @@ use Rattle.std.specs.List.{enumerate_from, flat_map}
 use Rattle.std.proofs.lemmas.List.{append-nil, drop_all}
 use Rattle.ll_why.specs.declared.grants.Ruled.{Ruled}
 use Rattle.ll_why.specs.Told.{path_on, rule_line}
-use Rattle.ll_why.proofs.Growing.{came}
+use Rattle.ll_why.proofs.TextGrowth.{came}
 use Rattle.ll_why.proofs.layers.rule_lines.Goals as goal
 
 none : Ruled

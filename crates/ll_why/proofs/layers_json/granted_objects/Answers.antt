@@ -5,7 +5,7 @@ use Rattle.std.proofs.lemmas.List.{append-nil, drop_all}
 use Rattle.ll_decide.specs.declared.demands.On.{On}
 use Rattle.ll_decide.specs.declared.demands.On.TheVariants.{Itself}
 use Rattle.ll_why.specs.WhyJson.{granted_json}
-use Rattle.ll_why.proofs.Growing.{came}
+use Rattle.ll_why.proofs.TextGrowth.{came}
 use Rattle.ll_why.proofs.layers_json.granted_objects.Goals as goal
 
 pub loop-on-preserved : goal.loop-on-preserved

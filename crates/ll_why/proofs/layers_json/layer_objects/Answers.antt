@@ -2,7 +2,7 @@ use Rattle.std.proofs.Common.{◌+◌, ◌++◌, List, drop, map, sym, ap, ◌�
 use Rattle.std.proofs.lemmas.List.{append-nil, drop_all}
 use Rattle.ll_why.specs.declared.reason.LayerReason.{LayerReason}
 use Rattle.ll_why.specs.WhyJson.{layer_json}
-use Rattle.ll_why.proofs.Growing.{added, from_element}
+use Rattle.ll_why.proofs.TextGrowth.{added, from_element}
 use Rattle.ll_why.proofs.layers_json.layer_objects.Goals as goal
 
 pub loop-told-preserved : goal.loop-told-preserved

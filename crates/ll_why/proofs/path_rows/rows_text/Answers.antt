@@ -3,7 +3,7 @@ use Rattle.std.proofs.lemmas.Bool.{eqb-false, eqb-true}
 use Rattle.std.proofs.lemmas.Result.{IfOk-weaker}
 use Rattle.ll_path.specs.Path.{Path}
 use Rattle.ll_why.specs.PathRows.{AreRows, paths_or_nodes}
-use Rattle.ll_why.proofs.Growing.{empty_is}
+use Rattle.ll_why.proofs.TextGrowth.{empty_is}
 use Rattle.ll_why.proofs.TableRows.{some_paths}
 use Rattle.ll_why.proofs.path_rows.rows_text.Goals as goal
 

@@ -10,8 +10,8 @@ use Rattle.ll_decide.specs.declared.demands.On.TheVariants.{Itself, Other, Paren
 use Rattle.ll_why.specs.declared.places.Sets.{Sets}
 use Rattle.ll_why.specs.Places.{chosen_by, denies, fits, granted_with, is_chosen, is_reached, may_hold, numbers, passes}
 use Rattle.ll_why.specs.Places.{serves, set_in}
-use Rattle.ll_why.proofs.Accepting.{some_right}
-use Rattle.ll_why.proofs.Choosing.{chosen_more, rest_more}
+use Rattle.ll_why.proofs.AcceptedRules.{some_right}
+use Rattle.ll_why.proofs.FirstChoice.{chosen_more, rest_more}
 use Rattle.ll_why.proofs.Denials.{denies_same}
 use Rattle.ll_why.proofs.places.least_sets.Goals as goal
 

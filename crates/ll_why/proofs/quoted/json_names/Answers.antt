@@ -3,7 +3,7 @@ use Rattle.std.specs.declared.alloc.Global.{Global}
 use Rattle.std.proofs.lemmas.Result.{IfOk-weaker}
 use Rattle.ll_rights.specs.Access.{set_names}
 use Rattle.ll_why.specs.Quoted.{quoted}
-use Rattle.ll_why.proofs.Growing.{joined_parts}
+use Rattle.ll_why.proofs.TextGrowth.{joined_parts}
 use Rattle.ll_why.proofs.quoted.json_names.Goals as goal
 
 pub returns : goal.returns

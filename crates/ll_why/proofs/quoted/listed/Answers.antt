@@ -1,6 +1,6 @@
 use Rattle.std.proofs.Common.{codes, sym, ◌∙◌, string_bytes}
 use Rattle.std.proofs.lemmas.Result.{IfOk-weaker}
-use Rattle.ll_why.proofs.Growing.{joined_texts}
+use Rattle.ll_why.proofs.TextGrowth.{joined_texts}
 use Rattle.ll_why.proofs.quoted.listed.Goals as goal
 
 pub returns : goal.returns

@@ -5,7 +5,7 @@ use Rattle.ll_rights.specs.Access.{names_among}
 use Rattle.ll_rights.specs.Right.{all_rights, right_text}
 use Rattle.ll_rights.proofs.RightNames.{names_end, names_no, names_yes}
 use Rattle.ll_why.specs.Quoted.{quoted}
-use Rattle.ll_why.proofs.Growing.{added, from_element}
+use Rattle.ll_why.proofs.TextGrowth.{added, from_element}
 use Rattle.ll_why.proofs.quoted.names_of.Goals as goal
 use Rattle.ll_why.proofs.quoted.names_of.Goals.{then-holds+in_ok-concat+in_ok-push, else-holds}
 

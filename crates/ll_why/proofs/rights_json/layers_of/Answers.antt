@@ -2,7 +2,7 @@ use Rattle.std.proofs.Common.{◌+◌, ◌++◌, List, drop, map, sym, ap, ◌�
 use Rattle.std.proofs.lemmas.List.{append-nil, drop_all}
 use Rattle.ll_why.specs.declared.grants.Grants.{Grants}
 use Rattle.ll_why.specs.RightsJson.{grants_json}
-use Rattle.ll_why.proofs.Growing.{added, from_element}
+use Rattle.ll_why.proofs.TextGrowth.{added, from_element}
 use Rattle.ll_why.proofs.rights_json.layers_of.Goals as goal
 
 pub loop-grants-preserved : goal.loop-grants-preserved

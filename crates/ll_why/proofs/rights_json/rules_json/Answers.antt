@@ -2,7 +2,7 @@ use Rattle.std.proofs.Common.{codes, ap, sym, ◌∙◌, map, string_bytes, List
 use Rattle.std.specs.List.{join_by}
 use Rattle.std.specs.declared.alloc.Global.{Global}
 use Rattle.std.proofs.lemmas.Result.{IfOk-weaker}
-use Rattle.ll_why.proofs.Growing.{joined_texts}
+use Rattle.ll_why.proofs.TextGrowth.{joined_texts}
 use Rattle.ll_why.proofs.rights_json.rules_json.Goals as goal
 
 pub returns : goal.returns

@@ -1,7 +1,7 @@
 use Rattle.std.proofs.Common.{◌≡◌, ◌+◌, ◌++◌, ◌∷◌, drop, ap, sym, ◌∙◌, string_bytes}
 use Rattle.std.specs.List.{flat_map}
 use Rattle.std.proofs.lemmas.List.{append-nil, drop_all}
-use Rattle.ll_decide.proofs.Finding.{at_element}
+use Rattle.ll_decide.proofs.FirstDenial.{at_element}
 use Rattle.ll_why.specs.Table.{behind, column_tokens}
 use Rattle.ll_why.proofs.TokenTexts.{come}
 use Rattle.ll_why.proofs.table.push_columns.Goals as goal

@@ -2,7 +2,7 @@ use Rattle.std.proofs.Common.{List, ℕ, ap, ◌∙◌}
 use Rattle.std.specs.Borrow.{Bor}
 use Rattle.std.specs.List.{flat_map}
 use Rattle.std.proofs.lemmas.List.{take_all}
-use Rattle.ll_why.proofs.Growing.{all_parts}
+use Rattle.ll_why.proofs.TextGrowth.{all_parts}
 use Rattle.ll_why.proofs.text.concat.Goals as goal
 
 pub returns : goal.returns

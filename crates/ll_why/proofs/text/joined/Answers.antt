@@ -2,7 +2,7 @@ use Rattle.std.proofs.Common.{◌+◌, ◌++◌, List, ℕ, String, drop, sym, a
 use Rattle.std.specs.List.{flat_map, join_by}
 use Rattle.std.specs.declared.alloc.Global.{Global}
 use Rattle.std.proofs.lemmas.List.{append-nil, drop_all}
-use Rattle.ll_why.proofs.Growing.{came, empty_is, from_element}
+use Rattle.ll_why.proofs.TextGrowth.{came, empty_is, from_element}
 use Rattle.ll_why.proofs.text.joined.Goals as goal
 
 pub loop-part-preserved : goal.loop-part-preserved

@@ -5,9 +5,9 @@ use Rattle.ll_rules.specs.Layer.{Layer}
 use Rattle.ll_decide.specs.Judge.{grants_along}
 use Rattle.ll_decide.specs.Verdict.{verdict}
 use Rattle.ll_why.specs.Reasons.{IsLayerReason, chain_of}
-use Rattle.ll_why.proofs.Clearing.{clear_willing}
+use Rattle.ll_why.proofs.ClearLayers.{clear_willing}
 use Rattle.ll_why.proofs.Denials.{willing_allows}
-use Rattle.ll_why.proofs.Judging.{judged_so}
+use Rattle.ll_why.proofs.PolicyAnswers.{judged_so}
 use Rattle.ll_why.proofs.why.reason_of.Goals as goal
 
 pub returns : goal.returns

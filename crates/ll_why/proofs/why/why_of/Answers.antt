@@ -5,7 +5,7 @@ use Rattle.ll_seq.specs.Stages.{early_refusals}
 use Rattle.ll_seq.proofs.StepParts.{none_first, refused_early}
 use Rattle.ll_seq.proofs.Walked.{after_early, first_kept, in_order}
 use Rattle.ll_seq.specs.Passed.{before_policy, found_refusals}
-use Rattle.ll_why.proofs.Judging.{judged, kept_is}
+use Rattle.ll_why.proofs.PolicyAnswers.{judged, kept_is}
 use Rattle.ll_why.proofs.why.why_of.Goals as goal
 
 pub returns-in-Some-clause-answered : goal.returns-in-Some-clause-answered

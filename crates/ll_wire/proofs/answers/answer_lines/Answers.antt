@@ -1,10 +1,10 @@
 use Rattle.std.proofs.Common.{◌∙◌, List, ℕ, Ok, ap, arith, length, refl, subst, sym}
 use Rattle.std.proofs.lemmas.Result.{on_ok_weaker, on_err_weaker}
-use Rattle.ll_wire.specs.Cutting.{most_left, unread}
+use Rattle.ll_wire.specs.LineCuts.{most_left, unread}
 use Rattle.ll_wire.proofs.Advance.{all_read, all_told, end_stops, none_yet, on_err, one_more, one_stops, one_untold}
 use Rattle.ll_wire.proofs.Advance.{reading_stops, still_some}
 use Rattle.ll_wire.proofs.LeftToRead.{counts_more, counts_still, left_still}
-use Rattle.ll_wire.proofs.Telling.{calls_more, ready_at_first}
+use Rattle.ll_wire.proofs.ToldParts.{calls_more, ready_at_first}
 use Rattle.ll_wire.proofs.answers.answer_lines.Goals as goal
 
 pub loop-line-init : goal.loop-line-init

@@ -1,5 +1,5 @@
 use Rattle.std.proofs.Common.{◌≡◌, ◌+◌, ◌*◌, ◌^◌, ◌≤◌, false}
-use Rattle.ll_wire.specs.Cutting.{Calls, CanGoOn, Counts, most_left, unread}
+use Rattle.ll_wire.specs.LineCuts.{Calls, CanGoOn, Counts, most_left, unread}
 use Rattle.ll_wire.specs.Reached.{AnswersSome}
 use Rattle.ll_wire.proofs.answers.answer_lines.Given as goal
 

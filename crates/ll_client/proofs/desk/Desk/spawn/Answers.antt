@@ -7,7 +7,7 @@ use Rattle.ll_seq.specs.declared.reply.Reply.TheVariants as replies
 use Rattle.ll_laws.specs.declared.step.Step.TheVariants.{ClientStep}
 use Rattle.ll_journal.specs.Book.{Book}
 use Rattle.ll_journal.specs.Direct.{Answers}
-use Rattle.ll_client.specs.Coming.{HasNoPlace, childless, spawn_made}
+use Rattle.ll_client.specs.CallStart.{HasNoPlace, childless, spawn_made}
 use Rattle.ll_client.specs.Entries.{Knows, doing_in, doing_of, knows, part_in, part_of, starved_in}
 use Rattle.ll_client.specs.Gains.{Gains, Told}
 use Rattle.ll_client.specs.Hands.{seen_made, starved_if, starves_made}

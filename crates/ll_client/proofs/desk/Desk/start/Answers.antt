@@ -1,6 +1,6 @@
 use Rattle.std.proofs.Common.{◌≡◌, ◌≤◌, [], length, List, sym, ap, ◌∙◌, subst}
 use Rattle.ll_seq.specs.declared.reply.Entry.{Entry}
-use Rattle.ll_client.specs.Coming.{SetsOut}
+use Rattle.ll_client.specs.CallStart.{SetsOut}
 use Rattle.ll_client.specs.Entries.{Knows, doing_in, knows, part_in, starved_in}
 use Rattle.ll_client.specs.Hands.{seen_started}
 use Rattle.ll_client.proofs.Accounts.{IsClient, accounts_kept}

@@ -1,6 +1,6 @@
 use Rattle.std.proofs.Common.{◌∙◌, sym}
 use Rattle.ll_decide.specs.Search.{is_in, of_right}
-use Rattle.ll_decide.proofs.Finding.{found_here, found_later}
+use Rattle.ll_decide.proofs.FirstDenial.{found_here, found_later}
 use Rattle.ll_decide.proofs.Sets.{none_in_layer}
 use Rattle.ll_decide.proofs.judge.Denied.first.Goals as goal
 

@@ -2,7 +2,7 @@ use Rattle.std.proofs.Common.{◌+◌, ◌∙◌, sym, ap, length, arith}
 use Rattle.std.specs.Prelude.{List, slice_get}
 use Rattle.ll_decide.specs.declared.denial.Denial.{Denial}
 use Rattle.ll_decide.specs.Search.{is_in, fails, layers_of, of_layer}
-use Rattle.ll_decide.proofs.Finding.{numbered_here, numbered_later}
+use Rattle.ll_decide.proofs.FirstDenial.{numbered_here, numbered_later}
 use Rattle.ll_decide.proofs.Sets.{layer-same, none_denied}
 use Rattle.ll_decide.proofs.judge.Granted.first.Goals as goal
 

@@ -1,8 +1,8 @@
 use Rattle.std.proofs.Common.{arith, subst, sym}
 use Rattle.std.proofs.lemmas.Result.{on_ok_weaker}
-use Rattle.ll_session.specs.Opening.{Comes, coming_at}
+use Rattle.ll_session.specs.FirstClients.{Comes, coming_at}
 use Rattle.ll_session.specs.declared.refusal.Refusal.{Refusal}
-use Rattle.ll_session.proofs.Coming.{if_err_both}
+use Rattle.ll_session.proofs.FirstComers.{if_err_both}
 use Rattle.ll_embed.specs.Alone.{own}
 use Rattle.ll_embed.proofs.Owned.{comes_made, comes_unmade, following_is}
 use Rattle.ll_embed.proofs.own_tree.OwnTree.bring.Goals as goal

@@ -1,5 +1,5 @@
 use Rattle.std.proofs.lemmas.Result.{IfErr-weaker, on_ok_weaker}
-use Rattle.ll_session.specs.Opening.{coming_at, made}
+use Rattle.ll_session.specs.FirstClients.{coming_at, made}
 use Rattle.ll_embed.specs.Alone.{own}
 use Rattle.ll_embed.proofs.Owned.{loads_none, loads_some}
 use Rattle.ll_embed.proofs.own_tree.OwnTree.load.Goals as goal

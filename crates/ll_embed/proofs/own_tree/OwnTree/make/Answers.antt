@@ -3,7 +3,7 @@ use Rattle.std.proofs.lemmas.Iterator.Adapters.{YieldsList-from_vec}
 use Rattle.std.proofs.lemmas.Iterator.Consumers.{YieldsList-turn, YieldsList-end}
 use Rattle.std.proofs.lemmas.List.{drop_all, length-append}
 use Rattle.ll_seq.specs.declared.call.Call.{Call}
-use Rattle.ll_session.specs.Opening.{Makes, Stops}
+use Rattle.ll_session.specs.FirstClients.{Makes, Stops}
 use Rattle.ll_embed.specs.Alone.{own}
 use Rattle.ll_embed.proofs.Owned.{makes_on, stops_here, stops_on}
 use Rattle.ll_embed.proofs.own_tree.OwnTree.make.Goals as goal

@@ -1,6 +1,6 @@
 use Rattle.std.proofs.Common.{◌≡◌, ◌≤◌, ◌+◌, ℕ, drop, length}
 use Rattle.ll_seq.specs.declared.reply.Reply.{Reply}
-use Rattle.ll_session.specs.Opening.{Makes, Stops}
+use Rattle.ll_session.specs.FirstClients.{Makes, Stops}
 use Rattle.ll_session.specs.PartySession.{Session}
 use Rattle.ll_embed.specs.Alone.{own}
 use Rattle.ll_embed.proofs.own_tree.OwnTree.make.Given as goal

@@ -1,5 +1,5 @@
 use Rattle.std.proofs.Common.{◌+◌, ◌-◌, subst, arith}
-use Rattle.ll_session.specs.Opening.{Loads, coming_at, made}
+use Rattle.ll_session.specs.FirstClients.{Loads, coming_at, made}
 use Rattle.ll_session.specs.PartySession.{Session}
 use Rattle.ll_session.proofs.SessionPlaces.{how_many}
 use Rattle.ll_embed.specs.Alone.{own}

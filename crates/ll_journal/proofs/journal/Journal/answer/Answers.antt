@@ -22,7 +22,7 @@ use Rattle.ll_journal.specs.WalkEnds.{LeavesFree}
 use Rattle.ll_journal.specs.Performed.{moved_list}
 use Rattle.ll_journal.specs.Kept.{book_of, spares_of, world_of}
 use Rattle.ll_journal.specs.Performed.{IsPerformed, at_seat}
-use Rattle.ll_journal.proofs.Advancing.{commit_replies}
+use Rattle.ll_journal.proofs.Advances.{commit_replies}
 use Rattle.ll_journal.proofs.AtAnswers.{EndedSo, at_end, ended_so, seat_idle}
 use Rattle.ll_journal.proofs.Committed.{IsCommitted, committed_kept, committed_lent, committed_rest, committed_spares}
 use Rattle.ll_journal.proofs.Committed.{committed_step, scene_at, spares_both}
@@ -30,7 +30,7 @@ use Rattle.ll_journal.proofs.DecidedCalls.{no_zero}
 use Rattle.ll_journal.proofs.Ended.{commit_gives_up}
 use Rattle.ll_journal.proofs.EndedWalks.{place_within}
 use Rattle.ll_journal.proofs.Starved.{starves_by, walked_takes}
-use Rattle.ll_journal.proofs.Stepping.{book_unchanged, entered, set_again}
+use Rattle.ll_journal.proofs.OwnSteps.{book_unchanged, entered, set_again}
 use Rattle.ll_journal.proofs.journal.Journal.answer.Goals as goal
 
 -- the history is full

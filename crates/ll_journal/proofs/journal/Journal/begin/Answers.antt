@@ -6,8 +6,8 @@ use Rattle.ll_laws.specs.World.{NotNow, advance}
 use Rattle.ll_laws.specs.declared.step.Step.TheVariants.{Begin}
 use Rattle.std.proofs.Common.{ap, ◌∙◌, ◌≡◌, false, refl}
 use Rattle.ll_laws.specs.declared.step.Step.TheVariants.{ClientStep}
-use Rattle.ll_journal.proofs.SettingOut.{walks_not_alone}
-use Rattle.ll_journal.proofs.Starting.{at_place, may, not_here, turned_down}
+use Rattle.ll_journal.proofs.Departures.{walks_not_alone}
+use Rattle.ll_journal.proofs.Starts.{at_place, may, not_here, turned_down}
 use Rattle.ll_journal.proofs.journal.Journal.begin.Goals as goal
 
 pub returns-in_default-clause-not_now : goal.returns-in_default-clause-not_now

@@ -5,7 +5,7 @@ use Rattle.ll_journal.specs.Kept.{spares_of, walks_from, world_of}
 use Rattle.ll_journal.specs.CommitCheck.{check_of}
 use Rattle.ll_journal.specs.Stopped.{IsStop}
 use Rattle.ll_journal.proofs.EndedWalks.{place_within}
-use Rattle.ll_journal.proofs.Starting.{at_place}
+use Rattle.ll_journal.proofs.Starts.{at_place}
 use Rattle.ll_journal.proofs.StopMeans.{stop_means}
 use Rattle.ll_journal.proofs.journal.Journal.check_end.Goals as goal
 

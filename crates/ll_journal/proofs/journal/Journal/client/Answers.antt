@@ -4,7 +4,7 @@ use Rattle.ll_rights.specs.Map.{get}
 use Rattle.ll_laws.specs.World.{shown}
 use Rattle.ll_journal.specs.Book.{Book, Seat}
 use Rattle.ll_journal.specs.Kept.{seat_at}
-use Rattle.ll_journal.proofs.Starting.{at_place}
+use Rattle.ll_journal.proofs.Starts.{at_place}
 use Rattle.ll_journal.proofs.journal.Journal.client.Goals as goal
 
 pub returns-in-None : goal.returns-in-None

@@ -5,9 +5,9 @@ use Rattle.ll_laws.proofs.Chains.{same_Some}
 use Rattle.ll_journal.specs.declared.journal.Journal.TheInside.{Inside}
 use Rattle.ll_journal.specs.Book.{Seat}
 use Rattle.ll_journal.specs.Own.{IsOwn}
-use Rattle.ll_journal.proofs.Starting.{at_place}
-use Rattle.ll_journal.proofs.Stepping.{Stepped, not_own, own_alone, step_full, over_not_now, over_full, on_record}
-use Rattle.ll_journal.proofs.Stepping.{on_spawn, over_stepped}
+use Rattle.ll_journal.proofs.Starts.{at_place}
+use Rattle.ll_journal.proofs.OwnSteps.{Stepped, not_own, own_alone, step_full, over_not_now, over_full, on_record}
+use Rattle.ll_journal.proofs.OwnSteps.{on_spawn, over_stepped}
 use Rattle.ll_journal.proofs.journal.Journal.client_step.Goals as goal
 
 pub returns-in_default-own_call-clause-not_now : goal.returns-in_default-own_call-clause-not_now

@@ -3,9 +3,9 @@ use Rattle.ll_laws.specs.World.{NotNow, advance}
 use Rattle.ll_laws.specs.declared.step.Step.TheVariants.{Commit}
 use Rattle.ll_journal.specs.Book.{Book}
 use Rattle.ll_journal.specs.Kept.{seat_at, world_of}
-use Rattle.ll_journal.proofs.Advancing.{commit_none}
+use Rattle.ll_journal.proofs.Advances.{commit_none}
 use Rattle.ll_journal.proofs.ClientTables.{many_spares}
-use Rattle.ll_journal.proofs.Entering.{no_walk}
+use Rattle.ll_journal.proofs.RootDescents.{no_walk}
 use Rattle.ll_journal.proofs.journal.Journal.commit.Goals as goal
 
 -- nobody is there

@@ -1,6 +1,6 @@
 use Rattle.std.proofs.Common.{rules, refl, sym, ◌∙◌}
 use Rattle.ll_journal.proofs.Answered.{connect_kept, connect_joined, connect_spares, connect_would, over_joined}
-use Rattle.ll_journal.proofs.Starting.{over_spares}
+use Rattle.ll_journal.proofs.Starts.{over_spares}
 use Rattle.ll_journal.proofs.journal.Journal.connect.Goals as goal
 
 pub invariant_of-self-2 : goal.invariant_of-self-2

@@ -11,9 +11,9 @@ use Rattle.ll_journal.specs.Seated.{call_in}
 use Rattle.ll_journal.specs.declared.onward.Onward.{Onward}
 use Rattle.ll_journal.specs.Steps.{IsAstrayBelow, IsNext}
 use Rattle.ll_journal.proofs.ClientTables.{many_spares}
-use Rattle.ll_journal.proofs.Starting.{at_place}
-use Rattle.ll_journal.proofs.Entering.{no_walk}
-use Rattle.ll_journal.proofs.Descending.{down_not_now, down_astray}
+use Rattle.ll_journal.proofs.Starts.{at_place}
+use Rattle.ll_journal.proofs.RootDescents.{no_walk}
+use Rattle.ll_journal.proofs.Descents.{down_not_now, down_astray}
 use Rattle.ll_journal.proofs.KnownNames.{names_seated}
 use Rattle.ll_journal.proofs.SoughtNext.{goes_next, goes_there}
 use Rattle.ll_journal.proofs.journal.Journal.descend.Goals as goal

@@ -5,7 +5,7 @@ use Rattle.ll_journal.specs.Book.{has_mark, inode_in}
 use Rattle.ll_journal.specs.Needs.{IsBesides}
 use Rattle.ll_journal.specs.WalkEnds.{AreEnough, IsNeeded}
 use Rattle.ll_journal.proofs.EndSlots.{all_stood, all_with, enough_alone, enough_with}
-use Rattle.ll_journal.proofs.Gathering.{Gathers, gathers_slot}
+use Rattle.ll_journal.proofs.GatheredSlots.{Gathers, gathers_slot}
 use Rattle.ll_journal.proofs.journal.Journal.end_slots.Goals as goal
 
 -- without another

@@ -11,7 +11,7 @@ use Rattle.ll_journal.specs.WalkEnds.{is_lent}
 use Rattle.ll_journal.specs.Kept.{book_of, spares_of, world_of}
 use Rattle.ll_journal.proofs.EndedWalks.{domain_is, ended_book, ended_slots, ended_sound, ended_spares, ended_world}
 use Rattle.ll_journal.proofs.EndedWalks.{place_within, seat_walks, spares_same, walk_of}
-use Rattle.ll_journal.proofs.Starting.{at_place, kept_by, over_spares, rest_kept, spares_kept}
+use Rattle.ll_journal.proofs.Starts.{at_place, kept_by, over_spares, rest_kept, spares_kept}
 use Rattle.ll_journal.proofs.journal.Journal.end_walk.Goals as goal
 
 pub index_mut-seat-requires : goal.index_mut-seat-requires

@@ -10,9 +10,9 @@ use Rattle.ll_node.specs.Slot.{Slot}
 use Rattle.ll_journal.specs.Book.{Book, Seat, slot_of}
 use Rattle.ll_journal.specs.Kept.{seat_at, world_of}
 use Rattle.ll_journal.specs.Steps.{IsAstrayAtTop}
-use Rattle.ll_journal.proofs.Starting.{at_place, changed_world, kept_by, over_spares, rest_kept}
-use Rattle.ll_journal.proofs.Entering.{no_walk, one_seat, root_not_now, root_astray, root_goes, root_does, root_sound}
-use Rattle.ll_journal.proofs.Entering.{root_lent, root_spares}
+use Rattle.ll_journal.proofs.Starts.{at_place, changed_world, kept_by, over_spares, rest_kept}
+use Rattle.ll_journal.proofs.RootDescents.{no_walk, one_seat, root_not_now, root_astray, root_goes, root_does}
+use Rattle.ll_journal.proofs.RootDescents.{root_sound, root_lent, root_spares}
 use Rattle.ll_journal.proofs.journal.Journal.enter.Goals as goal
 
 pub returns-in_default-clause-does : goal.returns-in_default-clause-does

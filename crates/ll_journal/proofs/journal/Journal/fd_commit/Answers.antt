@@ -6,7 +6,7 @@ use Rattle.ll_journal.specs.declared.journal.Journal.TheInside.{Inside}
 use Rattle.ll_journal.specs.Book.{Book, Seat, slot_of}
 use Rattle.ll_journal.specs.Direct.{IsAstrayOn}
 use Rattle.ll_journal.specs.Kept.{seat_at}
-use Rattle.ll_journal.proofs.Starting.{at_place}
+use Rattle.ll_journal.proofs.Starts.{at_place}
 use Rattle.ll_journal.proofs.FileSteps.{FileStepped, served, over_file_stepped, over_file_not_now, over_file_full}
 use Rattle.ll_journal.proofs.CalledFiles.{opened_idle, idle_open, no_seat, no_descriptor, not_open, astray, file_full}
 use Rattle.ll_journal.proofs.CalledFiles.{same_inode, plain}

@@ -3,7 +3,7 @@ use Rattle.std.proofs.Common.{sym, subst, ◌∙◌}
 use Rattle.ll_seq.specs.declared.client.Descriptor.{Descriptor}
 use Rattle.ll_journal.specs.Book.{Book, inode_in}
 use Rattle.ll_journal.specs.Direct.{IsOpen}
-use Rattle.ll_journal.proofs.Starting.{at_place}
+use Rattle.ll_journal.proofs.Starts.{at_place}
 use Rattle.ll_journal.proofs.CalledFiles.{slot_there, slot_none}
 use Rattle.ll_journal.proofs.StandingWalks.{is_placed}
 use Rattle.ll_journal.proofs.journal.Journal.file_slot.Goals as goal

@@ -6,9 +6,9 @@ use Rattle.ll_laws.specs.World as world
 use Rattle.ll_journal.specs.Book.{Book, Seat}
 use Rattle.ll_journal.specs.Kept.{seat_at, world_of}
 use Rattle.ll_journal.specs.Checks.{goes_on}
-use Rattle.ll_journal.proofs.Starting.{at_place, changed_world, kept_by, over_spares, rest_kept}
-use Rattle.ll_journal.proofs.Entering.{no_walk, one_seat}
-use Rattle.ll_journal.proofs.Forking.{at_fork, fork_not_now, fork_goes, fork_does, fork_sound, fork_spares}
+use Rattle.ll_journal.proofs.Starts.{at_place, changed_world, kept_by, over_spares, rest_kept}
+use Rattle.ll_journal.proofs.RootDescents.{no_walk, one_seat}
+use Rattle.ll_journal.proofs.Forks.{at_fork, fork_not_now, fork_goes, fork_does, fork_sound, fork_spares}
 use Rattle.ll_journal.proofs.journal.Journal.fork.Goals as goal
 
 pub returns-in_default-clause-does : goal.returns-in_default-clause-does

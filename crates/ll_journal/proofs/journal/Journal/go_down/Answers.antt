@@ -4,8 +4,8 @@ use Rattle.ll_laws.specs.declared.step.Step.TheVariants.{Descend}
 use Rattle.ll_journal.specs.Book.{Book, Seat}
 use Rattle.ll_journal.specs.Kept.{book_of}
 use Rattle.ll_journal.proofs.EndedWalks.{place_within}
-use Rattle.ll_journal.proofs.Starting.{at_place, changed_world, kept_by, over_spares, rest_kept}
-use Rattle.ll_journal.proofs.Descending.{has_next, down_does, down_sound, down_from, down_to, down_spares}
+use Rattle.ll_journal.proofs.Starts.{at_place, changed_world, kept_by, over_spares, rest_kept}
+use Rattle.ll_journal.proofs.Descents.{has_next, down_does, down_sound, down_from, down_to, down_spares}
 use Rattle.ll_journal.proofs.SoughtNext.{lent_here, next_goes, next_here}
 use Rattle.ll_journal.proofs.journal.Journal.go_down.Goals as goal
 

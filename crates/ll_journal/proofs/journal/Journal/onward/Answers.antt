@@ -7,9 +7,9 @@ use Rattle.ll_journal.specs.Stations.{Names, call_of, station_on}
 use Rattle.ll_journal.specs.Stations.{station_in}
 use Rattle.ll_journal.specs.Steps.{GoesDown, IsNext}
 use Rattle.ll_journal.proofs.KnownNames.{names_told, nothing_ahead, station_told}
-use Rattle.ll_journal.proofs.Looking.{nobody_next, next_found, next_none}
+use Rattle.ll_journal.proofs.Looks.{nobody_next, next_found, next_none}
 use Rattle.ll_journal.proofs.StandingWalks.{is_placed}
-use Rattle.ll_journal.proofs.Starting.{at_place}
+use Rattle.ll_journal.proofs.Starts.{at_place}
 use Rattle.ll_journal.proofs.journal.Journal.onward.Goals as goal
 
 pub returns-in_default-clause-none : goal.returns-in_default-clause-none

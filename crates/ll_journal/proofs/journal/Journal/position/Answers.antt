@@ -4,8 +4,8 @@ use Rattle.ll_laws.specs.Walk.{Walk}
 use Rattle.ll_journal.specs.Book.{Book}
 use Rattle.ll_journal.specs.Kept.{seat_at}
 use Rattle.ll_journal.specs.Stations.{position_at, position_in}
-use Rattle.ll_journal.proofs.Starting.{at_place}
-use Rattle.ll_journal.proofs.Entering.{no_walk, walk_here}
+use Rattle.ll_journal.proofs.Starts.{at_place}
+use Rattle.ll_journal.proofs.RootDescents.{no_walk, walk_here}
 use Rattle.ll_journal.proofs.journal.Journal.position.Goals as goal
 
 pub returns-in-None : goal.returns-in-None

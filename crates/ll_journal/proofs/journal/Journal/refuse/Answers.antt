@@ -12,7 +12,7 @@ use Rattle.ll_journal.specs.Stopped.{IsBlockedEnd}
 use Rattle.ll_journal.proofs.Committed.{spares_both}
 use Rattle.ll_journal.proofs.Ended.{commit_gives_up}
 use Rattle.ll_journal.proofs.EndedWalks.{place_within}
-use Rattle.ll_journal.proofs.Refusing.{refused_does, refused_kept, refused_lent, refused_spares}
+use Rattle.ll_journal.proofs.RefusedWalks.{refused_does, refused_kept, refused_lent, refused_spares}
 use Rattle.ll_journal.proofs.journal.Journal.refuse.Goals as goal
 
 pub returns-then-is_full-clause-does : goal.returns-then-is_full-clause-does

@@ -7,10 +7,10 @@ use Rattle.ll_journal.specs.Book.{Book, Seat, slot_of}
 use Rattle.ll_journal.specs.Kept.{book_of, seat_at, world_of}
 use Rattle.ll_journal.specs.Checks.{check_restart}
 use Rattle.ll_journal.specs.Steps.{IsAstrayAt}
-use Rattle.ll_journal.proofs.Starting.{at_place, changed_world, kept_by, over_spares, rest_kept}
-use Rattle.ll_journal.proofs.Entering.{no_walk, one_seat}
-use Rattle.ll_journal.proofs.Restarting.{StartsAgain, again_not_now, again_astray, again_goes, few_starts, again_does}
-use Rattle.ll_journal.proofs.Restarting.{again_sound, again_lent, again_spares}
+use Rattle.ll_journal.proofs.Starts.{at_place, changed_world, kept_by, over_spares, rest_kept}
+use Rattle.ll_journal.proofs.RootDescents.{no_walk, one_seat}
+use Rattle.ll_journal.proofs.Restarts.{StartsAgain, again_not_now, again_astray, again_goes, few_starts, again_does}
+use Rattle.ll_journal.proofs.Restarts.{again_sound, again_lent, again_spares}
 use Rattle.ll_journal.proofs.journal.Journal.restart.Goals as goal
 
 pub returns-in_default-clause-does : goal.returns-in_default-clause-does

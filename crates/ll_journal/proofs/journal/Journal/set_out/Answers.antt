@@ -4,10 +4,10 @@ use Rattle.ll_journal.specs.Book.{Book, Seat}
 use Rattle.ll_journal.specs.Kept.{seat_at, world_of}
 use Rattle.ll_laws.specs.World.{Begun, NotNow, advance}
 use Rattle.ll_laws.specs.declared.step.Step.TheVariants.{Begin}
-use Rattle.ll_journal.proofs.Starting.{at_place, may, not_here, turned_down, idle_before, world_begun, sets_out}
-use Rattle.ll_journal.proofs.Starting.{slots_kept, kept_by, over_begun, over_spares, sound_after, rest_kept}
-use Rattle.ll_journal.proofs.Starting.{changed_world}
-use Rattle.ll_journal.proofs.SettingOut.{gate_held, walks_so}
+use Rattle.ll_journal.proofs.Starts.{at_place, may, not_here, turned_down, idle_before, world_begun, sets_out}
+use Rattle.ll_journal.proofs.Starts.{slots_kept, kept_by, over_begun, over_spares, sound_after, rest_kept}
+use Rattle.ll_journal.proofs.Starts.{changed_world}
+use Rattle.ll_journal.proofs.Departures.{gate_held, walks_so}
 use Rattle.ll_journal.proofs.journal.Journal.set_out.Goals as goal
 
 pub returns-in_default-clause-not_now : goal.returns-in_default-clause-not_now

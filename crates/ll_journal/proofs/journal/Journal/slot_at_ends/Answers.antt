@@ -16,8 +16,8 @@ use Rattle.ll_journal.specs.Needs.{IsBesides}
 use Rattle.ll_journal.specs.Needs as needs
 use Rattle.ll_journal.specs.Steps.{IsInTurn}
 use Rattle.ll_journal.proofs.EndSlots.{besides_is, besides_within, not_besides}
-use Rattle.ll_journal.proofs.Entering.{no_walk, walk_here}
-use Rattle.ll_journal.proofs.Starting.{at_place}
+use Rattle.ll_journal.proofs.RootDescents.{no_walk, walk_here}
+use Rattle.ll_journal.proofs.Starts.{at_place}
 use Rattle.ll_journal.proofs.journal.Journal.slot_at_ends.Goals as goal
 
 pub returns-in_default-clause-needed : goal.returns-in_default-clause-needed

@@ -6,10 +6,10 @@ use Rattle.ll_seq.specs.declared.call.Call.{Call}
 use Rattle.ll_journal.specs.Book.{Book, slot_of}
 use Rattle.ll_journal.specs.InWay.{IsFreeFrom, IsInWay}
 use Rattle.ll_journal.specs.Kept.{seat_at, walks_from, world_of}
-use Rattle.ll_journal.proofs.Entering.{no_walk, walk_here}
+use Rattle.ll_journal.proofs.RootDescents.{no_walk, walk_here}
 use Rattle.ll_journal.proofs.InTheWay.{has_come, none_in_way, told_in_way, told_some}
 use Rattle.ll_journal.proofs.StandingWalks.{is_placed}
-use Rattle.ll_journal.proofs.Starting.{at_place}
+use Rattle.ll_journal.proofs.Starts.{at_place}
 use Rattle.ll_journal.proofs.journal.Journal.slot_in_way.Goals as goal
 
 pub returns-in_default-clause-none : goal.returns-in_default-clause-none

@@ -3,9 +3,9 @@ use Rattle.std.proofs.Common.{ap, sym, subst, ◌∙◌}
 use Rattle.ll_journal.specs.Book.{Book, has_mark}
 use Rattle.ll_journal.specs.Kept.{book_of, seat_at, world_of}
 use Rattle.ll_journal.specs.WalkEnds.{is_lent}
-use Rattle.ll_journal.proofs.Gathering.{Gathers}
+use Rattle.ll_journal.proofs.GatheredSlots.{Gathers}
 use Rattle.ll_journal.proofs.StandingWalks.{few_stood, nobody_stands, stood_in}
-use Rattle.ll_journal.proofs.Starting.{at_place}
+use Rattle.ll_journal.proofs.Starts.{at_place}
 use Rattle.ll_journal.proofs.journal.Journal.stands_in.Goals as goal
 
 pub returns-in-None-clause-marked : goal.returns-in-None-clause-marked

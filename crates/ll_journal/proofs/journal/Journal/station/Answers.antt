@@ -2,8 +2,8 @@ use Rattle.std.proofs.Common.{ap, sym, ◌∙◌}
 use Rattle.ll_journal.specs.Book.{Book}
 use Rattle.ll_journal.specs.Kept.{seat_at}
 use Rattle.ll_journal.specs.Stations.{station_in, station_of}
-use Rattle.ll_journal.proofs.Starting.{at_place}
-use Rattle.ll_journal.proofs.Entering.{no_walk, walk_here}
+use Rattle.ll_journal.proofs.Starts.{at_place}
+use Rattle.ll_journal.proofs.RootDescents.{no_walk, walk_here}
 use Rattle.ll_journal.proofs.journal.Journal.station.Goals as goal
 
 pub returns-in-None : goal.returns-in-None

@@ -4,7 +4,7 @@ use Rattle.ll_laws.specs.Walk.{Leg}
 use Rattle.ll_journal.specs.Book.{Book, inode_in}
 use Rattle.ll_journal.specs.Kept.{seat_at}
 use Rattle.ll_journal.specs.Steps.{leg_in_turn}
-use Rattle.ll_journal.proofs.Starting.{at_place}
+use Rattle.ll_journal.proofs.Starts.{at_place}
 use Rattle.ll_journal.proofs.StandingWalks.{is_placed, nobody_in_turn, not_in_turn, turn_lies, turn_there}
 use Rattle.ll_journal.proofs.journal.Journal.turn_slot.Goals as goal
 

@@ -1,6 +1,6 @@
 use Rattle.std.proofs.Common.{sym, subst, ◌≡◌, ◌∙◌, false}
 use Rattle.ll_journal.specs.Book as book
-use Rattle.ll_journal.proofs.Overtaking.{overtaken_seat, passed_by, passes_any}
+use Rattle.ll_journal.proofs.StaleWalks.{overtaken_seat, passed_by, passes_any}
 use Rattle.ll_journal.proofs.seat.Seat.overtake.Goals as goal
 
 pub returns-else-passes_any : goal.returns-else-passes_any

@@ -2,7 +2,7 @@ use Rattle.std.specs.Prelude.{◌≡◌, ℕ, List, IfOk, OnErr}
 use Rattle.std.proofs.Common.{sym, subst, ◌∙◌}
 use Rattle.ll_seq.specs.Decided.{IsRefused}
 use Rattle.ll_seq.specs.declared.found.Found.{Found}
-use Rattle.ll_node.specs.Enacting.{Scene, in_hand}
+use Rattle.ll_node.specs.Enactment.{Scene, in_hand}
 use Rattle.ll_node.specs.declared.held.Held.{Held}
 use Rattle.ll_node.specs.InodeTable.{Table}
 use Rattle.ll_seq.proofs.Results.{if_ok}

@@ -1,8 +1,8 @@
 use Rattle.std.specs.Prelude.{◌+◌, [], ◌∷◌, ◌++◌}
 use Rattle.std.proofs.Common.{ap, sym}
 use Rattle.ll_learn.specs.Faults.{IsFault}
-use Rattle.ll_learn.specs.Passing.{is_client, none_known}
-use Rattle.ll_learn.specs.Watching.{joined, opened_behind}
+use Rattle.ll_learn.specs.PassedCalls.{is_client, none_known}
+use Rattle.ll_learn.specs.WatchedClients.{joined, opened_behind}
 use Rattle.ll_learn.proofs.Gathered.{and_one, ends, entry_of, goes_on, of_err, so_long, stops}
 use Rattle.ll_learn.proofs.needs.Needs.add.Goals as goal
 

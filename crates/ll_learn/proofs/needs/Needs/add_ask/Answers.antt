@@ -1,7 +1,7 @@
 use Rattle.std.specs.Prelude.{◌≡◌, refl}
 use Rattle.std.proofs.lemmas.Result.{on_ok_weaker}
 use Rattle.ll_learn.specs.declared.needs.Asked.{Asked}
-use Rattle.ll_learn.proofs.Needing.{more_asked, rooted_ask}
+use Rattle.ll_learn.proofs.MoreNeeds.{more_asked, rooted_ask}
 use Rattle.ll_learn.proofs.There.{asks_pushed, asks_same}
 use Rattle.ll_learn.proofs.needs.Needs.add_ask.Goals as goal
 

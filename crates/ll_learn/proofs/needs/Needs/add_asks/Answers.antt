@@ -5,7 +5,7 @@ use Rattle.ll_decide.specs.declared.demands.On.TheVariants.{Itself, Other, Paren
 use Rattle.ll_learn.specs.Needs.{StartsAtRoot}
 use Rattle.ll_decide.specs.declared.demands.On.{On}
 use Rattle.ll_why.specs.Reasons.{chain_of}
-use Rattle.ll_learn.proofs.Asking.{collected}
+use Rattle.ll_learn.proofs.AskedGrants.{collected}
 use Rattle.ll_learn.proofs.There.{asks_joined, asks_same, asks_weaker, moves_joined, moves_same}
 use Rattle.ll_learn.proofs.There.{moves_weaker}
 use Rattle.ll_learn.proofs.needs.Needs.add_asks.Goals as goal

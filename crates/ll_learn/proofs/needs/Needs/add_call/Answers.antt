@@ -11,7 +11,7 @@ use Rattle.ll_seq.specs.Passed.{before_policy}
 use Rattle.ll_seq.specs.State.{new_client}
 use Rattle.ll_seq.specs.declared.client.ClientRecord.{ClientRecord}
 use Rattle.ll_learn.specs.Needs.{StartsAtRoot}
-use Rattle.ll_learn.proofs.Asking.{added, judged_allows, kept_allows}
+use Rattle.ll_learn.proofs.AskedGrants.{added, judged_allows, kept_allows}
 use Rattle.ll_learn.proofs.Watches.{from_root}
 use Rattle.ll_learn.proofs.needs.Needs.add_call.Goals as goal
 

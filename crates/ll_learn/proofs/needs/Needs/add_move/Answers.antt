@@ -1,7 +1,7 @@
 use Rattle.std.specs.Prelude.{◌≡◌, refl}
 use Rattle.std.proofs.lemmas.Result.{on_ok_weaker}
 use Rattle.ll_learn.specs.declared.needs.Moved.{Moved}
-use Rattle.ll_learn.proofs.Needing.{more_moved, rooted_move}
+use Rattle.ll_learn.proofs.MoreNeeds.{more_moved, rooted_move}
 use Rattle.ll_learn.proofs.There.{moves_pushed, moves_same}
 use Rattle.ll_learn.proofs.needs.Needs.add_move.Goals as goal
 

@@ -14,7 +14,7 @@ use Rattle.ll_audit.specs.Audit.{IsFirstIllegal}
 use Rattle.ll_learn.specs.Demand.{IsOpenAt}
 use Rattle.ll_learn.specs.Outside.{is_moved}
 use Rattle.ll_learn.proofs.Gathered.{alone_illegal, theirs_too}
-use Rattle.ll_learn.proofs.Needing.{rooted_same, same_needs}
+use Rattle.ll_learn.proofs.MoreNeeds.{rooted_same, same_needs}
 use Rattle.ll_learn.proofs.needs.Needs.follow.Goals as goal
 
 pub returns-in-Err-Illegal-clause-fault : goal.returns-in-Err-Illegal-clause-fault

@@ -2,7 +2,7 @@ use Rattle.std.specs.Prelude.{List}
 use Rattle.std.proofs.Common.{subst}
 use Rattle.ll_learn.specs.declared.needs.Asked.{Asked}
 use Rattle.ll_learn.specs.Needs.{HasAsk}
-use Rattle.ll_learn.proofs.Needing.{asked_before, nothing_asked}
+use Rattle.ll_learn.proofs.MoreNeeds.{asked_before, nothing_asked}
 use Rattle.ll_learn.proofs.needs.Needs.has_asked.Goals as goal
 
 pub returns-then-rights-eq0 : goal.returns-then-rights-eq0

@@ -2,7 +2,7 @@ use Rattle.std.specs.Prelude.{List}
 use Rattle.std.proofs.Common.{subst}
 use Rattle.ll_learn.specs.declared.needs.Moved.{Moved}
 use Rattle.ll_learn.specs.Needs.{HasMove}
-use Rattle.ll_learn.proofs.Needing.{moved_before, nothing_moved}
+use Rattle.ll_learn.proofs.MoreNeeds.{moved_before, nothing_moved}
 use Rattle.ll_learn.proofs.needs.Needs.has_moved.Goals as goal
 
 pub returns-then-rights-eq0 : goal.returns-then-rights-eq0

@@ -1,7 +1,7 @@
 use Rattle.std.proofs.Common.{List, ℕ, subst}
 use Rattle.ll_rules.specs.Layer.{grants_on}
 use Rattle.ll_learn.specs.Needs.{GivesNone, GrantsAll}
-use Rattle.ll_learn.proofs.Asking.{from_six}
+use Rattle.ll_learn.proofs.AskedGrants.{from_six}
 use Rattle.ll_learn.proofs.needs.Needs.imply.Goals as goal
 
 pub returns : goal.returns

@@ -2,7 +2,7 @@ use Rattle.std.specs.Prelude.{Option}
 use Rattle.std.proofs.Common.{subst, sym, ◌∙◌}
 use Rattle.std.proofs.lemmas.Result.{on_ok_weaker}
 use Rattle.ll_learn.specs.declared.watch.Opened as opening
-use Rattle.ll_learn.specs.Watching.{Opens}
+use Rattle.ll_learn.specs.WatchedClients.{Opens}
 use Rattle.ll_learn.proofs.Watches.{joins_too, opens_more, stays_out, stays_so, unspawned}
 use Rattle.ll_learn.proofs.watch.Watch.follow.Goals as goal
 

@@ -1,6 +1,6 @@
 use Rattle.std.proofs.Common.{refl}
 use Rattle.ll_seq.specs.Call.{path_of}
-use Rattle.ll_seq.proofs.Standing.{is_place}
+use Rattle.ll_seq.proofs.LastNames.{is_place}
 use Rattle.ll_seq.proofs.changes.At.of.Goals as goal
 
 pub returns-clause-place : goal.returns-clause-place

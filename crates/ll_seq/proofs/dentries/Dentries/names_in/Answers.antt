@@ -6,7 +6,7 @@ use Rattle.std.proofs.lemmas.List.{take_all}
 use Rattle.ll_path.specs.Name.{IsName}
 use Rattle.ll_seq.specs.declared.dentries.Dentry.{Dentry}
 use Rattle.ll_seq.specs.Listed.{AreListed}
-use Rattle.ll_seq.proofs.Rising.{listed_rise, told_more, listed_more}
+use Rattle.ll_seq.proofs.NameOrder.{listed_rise, told_more, listed_more}
 use Rattle.ll_seq.proofs.dentries.Dentries.names_in.Goals as goal
 
 abbrev names : List (Dentry × ℕ) → List (List ℕ)

@@ -1,6 +1,6 @@
 use Rattle.std.proofs.Common.{sym, subst}
 use Rattle.ll_seq.specs.Listed.{AreListed}
-use Rattle.ll_seq.proofs.Rising.{none_listed}
+use Rattle.ll_seq.proofs.NameOrder.{none_listed}
 use Rattle.ll_seq.proofs.listing.Listing.new.Goals as goal
 
 pub invariant_of-result : goal.invariant_of-result

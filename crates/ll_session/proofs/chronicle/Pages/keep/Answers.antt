@@ -1,5 +1,5 @@
 use Rattle.std.proofs.Common.{subst, sym}
-use Rattle.ll_session.specs.Keeping.{AreKept}
+use Rattle.ll_session.specs.KeptHistory.{AreKept}
 use Rattle.ll_session.specs.declared.keeper.Kept.{Kept}
 use Rattle.ll_session.proofs.chronicle.Pages.keep.Goals as goal
 

@@ -1,6 +1,6 @@
 use Rattle.std.proofs.Common.{ap, arith, length, refl, subst, ◌∙◌}
 use Rattle.std.proofs.Math.Nat.{pos_of_ne-zero}
-use Rattle.ll_session.specs.Keeping.{AreKept, kept_of}
+use Rattle.ll_session.specs.KeptHistory.{AreKept, kept_of}
 use Rattle.ll_session.proofs.Pages.{are_kept, kept_broken, none_seen}
 use Rattle.ll_session.proofs.chronicle.Pages.write_up.Goals as goal
 

@@ -1,5 +1,5 @@
 use Rattle.std.proofs.Common.{string_bytes, subst, sym, ℕ}
-use Rattle.ll_session.specs.Keeping.{AreLines}
+use Rattle.ll_session.specs.KeptHistory.{AreLines}
 use Rattle.ll_session.proofs.Pages.{line_more}
 use Rattle.ll_session.proofs.page.Page.add.Goals as goal
 

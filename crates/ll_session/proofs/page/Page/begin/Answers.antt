@@ -1,5 +1,5 @@
 use Rattle.std.proofs.Common.{List, ℕ, refl, subst, sym}
-use Rattle.ll_session.specs.Keeping.{AreLines}
+use Rattle.ll_session.specs.KeptHistory.{AreLines}
 use Rattle.ll_session.proofs.Pages.{no_lines}
 use Rattle.ll_session.proofs.page.Page.begin.Goals as goal
 

@@ -1,5 +1,5 @@
 use Rattle.std.proofs.Common.{◌≡◌, false}
-use Rattle.ll_session.specs.Keeping.{Fills}
+use Rattle.ll_session.specs.KeptHistory.{Fills}
 use Rattle.ll_session.proofs.page.PageReadsHistory.read.Given as goal
 
 abbrev pub invariant-loop-index : goal.invariant-loop-index

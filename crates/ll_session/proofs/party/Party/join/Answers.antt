@@ -3,7 +3,7 @@ use Rattle.ll_rights.specs.declared.errno.Errno.TheVariants.{NoMemory}
 use Rattle.ll_client.specs.Entries.{Knows}
 use Rattle.ll_session.specs.Between.{Leads}
 use Rattle.ll_session.specs.Talk.{seen_by}
-use Rattle.ll_session.proofs.Leading.{nothing_leads}
+use Rattle.ll_session.proofs.ActChains.{nothing_leads}
 use Rattle.ll_session.proofs.Leadings.{Refuses, full_so, joined_so, many_so, not_full, starved_so, stays_on}
 use Rattle.ll_session.proofs.Lists.{joins_them}
 use Rattle.ll_session.proofs.Turns.{looks}

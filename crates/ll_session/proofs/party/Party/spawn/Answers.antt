@@ -1,7 +1,7 @@
 use Rattle.std.proofs.Common.{map, slice_set, sym, ap, inl, inr, refl, arith}
 use Rattle.ll_seq.specs.declared.call.Call.TheVariants.{Spawn}
 use Rattle.ll_seq.specs.declared.reply.Reply.TheVariants.{Spawned}
-use Rattle.ll_client.specs.Coming.{childless}
+use Rattle.ll_client.specs.CallStart.{childless}
 use Rattle.ll_client.specs.Entries.{Knows}
 use Rattle.ll_session.proofs.Acts.{asks_last, childless_brings_none}
 use Rattle.ll_session.proofs.Leadings.{refusal_of}

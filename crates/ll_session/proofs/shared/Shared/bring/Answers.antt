@@ -1,9 +1,9 @@
 use Rattle.std.proofs.Common.{arith, subst, sym}
 use Rattle.std.proofs.lemmas.Result.{on_ok_weaker}
 use Rattle.ll_session.specs.Between.{Leads}
-use Rattle.ll_session.specs.Opening.{Comes, Makes, Stops, coming_at}
+use Rattle.ll_session.specs.FirstClients.{Comes, Makes, Stops, coming_at}
 use Rattle.ll_session.specs.declared.refusal.Refusal.{Refusal}
-use Rattle.ll_session.proofs.Coming.{comes_not, comes_then, comes_unmade, if_err_both, makes_so, stops_so}
+use Rattle.ll_session.proofs.FirstComers.{comes_not, comes_then, comes_unmade, if_err_both, makes_so, stops_so}
 use Rattle.ll_session.proofs.shared.Shared.bring.Goals as goal
 
 pub make_calls-requires-clause-caller : goal.make_calls-requires-clause-caller

@@ -1,6 +1,6 @@
 use Rattle.std.proofs.lemmas.Result.{IfErr-weaker, on_ok_weaker}
-use Rattle.ll_session.specs.Opening.{coming_at, made}
-use Rattle.ll_session.proofs.Coming.{loads_none, loads_some}
+use Rattle.ll_session.specs.FirstClients.{coming_at, made}
+use Rattle.ll_session.proofs.FirstComers.{loads_none, loads_some}
 use Rattle.ll_session.proofs.shared.Shared.load.Goals as goal
 
 pub returns-in-Some-clause-ok : goal.returns-in-Some-clause-ok

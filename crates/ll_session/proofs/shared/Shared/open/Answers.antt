@@ -1,5 +1,5 @@
 use Rattle.std.proofs.Common.{◌≡◌, Err, rules}
-use Rattle.ll_session.proofs.Coming.{no_loader, no_session, opens}
+use Rattle.ll_session.proofs.FirstComers.{no_loader, no_session, opens}
 use Rattle.ll_session.proofs.shared.Shared.open.Goals as goal
 
 pub returns-in_err-load-clause-err : goal.returns-in_err-load-clause-err

@@ -1,6 +1,6 @@
 use Rattle.std.proofs.Common.{◌≡◌, Err, rules, sym}
 use Rattle.ll_wire.proofs.Cuts.{kept}
-use Rattle.ll_steps.proofs.Reading.{is_done, not_read, too_long}
+use Rattle.ll_steps.proofs.ReadPieces.{is_done, not_read, too_long}
 use Rattle.ll_steps.proofs.schedule.Schedule.made.Goals as goal
 
 pub returns-in_default-clause-answers : goal.returns-in_default-clause-answers

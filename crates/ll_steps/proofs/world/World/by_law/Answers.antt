@@ -1,6 +1,6 @@
 use Rattle.std.proofs.Common.{subst}
 use Rattle.ll_steps.specs.Headline.{IsLawful}
-use Rattle.ll_steps.proofs.Adding.{lawful}
+use Rattle.ll_steps.proofs.AddedEntries.{lawful}
 use Rattle.ll_steps.proofs.world.World.by_law.Goals as goal
 
 pub returns : goal.returns

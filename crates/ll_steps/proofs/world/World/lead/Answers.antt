@@ -1,6 +1,6 @@
 use Rattle.std.specs.Prelude.{Option}
 use Rattle.std.proofs.Common.{subst}
-use Rattle.ll_steps.specs.Calling.{goes_on}
+use Rattle.ll_steps.specs.CallOutcomes.{goes_on}
 use Rattle.ll_steps.specs.Left.{StepsOn}
 use Rattle.ll_steps.specs.declared.report.Report.{Report}
 use Rattle.ll_steps.proofs.world.World.lead.Goals as goal

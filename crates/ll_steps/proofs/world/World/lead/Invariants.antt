@@ -1,5 +1,5 @@
 use Rattle.ll_laws.specs.World.{World}
-use Rattle.ll_steps.specs.Calling.{Leads}
+use Rattle.ll_steps.specs.CallOutcomes.{Leads}
 use Rattle.ll_steps.specs.Left.{steps_left}
 use Rattle.ll_steps.specs.declared.report.Report.{Report}
 use Rattle.ll_steps.proofs.world.World.lead.Given as goal

@@ -2,7 +2,7 @@ use Rattle.std.proofs.Common.{[], ◌∷◌, length, arith, ◌∙◌}
 use Rattle.std.proofs.lemmas.Iterator.Adapters.{YieldsList-from_vec}
 use Rattle.std.proofs.lemmas.Iterator.Consumers.{YieldsList-turn, YieldsList-end}
 use Rattle.std.proofs.lemmas.List.{length-append}
-use Rattle.ll_steps.proofs.Adding.{ran_none, ran_on, ran_all}
+use Rattle.ll_steps.proofs.AddedEntries.{ran_none, ran_on, ran_all}
 use Rattle.ll_steps.proofs.world.World.run.Goals as goal
 
 pub loop-step-init : goal.loop-step-init

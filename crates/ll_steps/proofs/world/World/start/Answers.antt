@@ -3,7 +3,7 @@ use Rattle.ll_seq.specs.declared.reply.Entry.{Entry}
 use Rattle.ll_laws.specs.World.{World}
 use Rattle.ll_laws.specs.declared.step.Step.TheVariants.{FdCommit}
 use Rattle.ll_journal.specs.declared.start.Start.TheVariants as start
-use Rattle.ll_steps.specs.Calling.{Calls, Waits}
+use Rattle.ll_steps.specs.CallOutcomes.{Calls, Waits}
 use Rattle.ll_steps.specs.Contents.{answered_as}
 use Rattle.ll_steps.specs.declared.report.Report.{Report}
 use Rattle.ll_steps.specs.declared.report.Report.TheVariants.{NotNow}

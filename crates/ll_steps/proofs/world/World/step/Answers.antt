@@ -1,5 +1,5 @@
 use Rattle.ll_laws.specs.declared.step.Step.TheVariants.{Begin, FdCommit, ClientStep}
-use Rattle.ll_steps.proofs.Adding.{told_step, back_makes}
+use Rattle.ll_steps.proofs.AddedEntries.{told_step, back_makes}
 use Rattle.ll_steps.proofs.world.World.step.Goals as goal
 use Rattle.ll_steps.proofs.world.World.step.Goals.{in-Join, in-Begin, in-Descend, in-Fork, in-Commit, in-Restart}
 use Rattle.ll_steps.proofs.world.World.step.Goals.{in-FdCommit, in-ClientStep}

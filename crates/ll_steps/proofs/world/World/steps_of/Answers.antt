@@ -1,5 +1,5 @@
 use Rattle.std.proofs.Common.{sym}
-use Rattle.ll_steps.specs.Calling.{walks}
+use Rattle.ll_steps.specs.CallOutcomes.{walks}
 use Rattle.ll_steps.proofs.DirectMakes.{no_descriptor}
 use Rattle.ll_steps.proofs.world.World.steps_of.Goals as goal
 

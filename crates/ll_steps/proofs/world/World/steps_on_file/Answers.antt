@@ -1,4 +1,4 @@
-use Rattle.ll_steps.specs.Calling.{on_file}
+use Rattle.ll_steps.specs.CallOutcomes.{on_file}
 use Rattle.ll_steps.proofs.StepKinds.{calls_stop, calls_walk}
 use Rattle.ll_steps.proofs.world.World.steps_on_file.Goals as goal
 

@@ -1,7 +1,7 @@
 use Rattle.std.proofs.Common.{◌∙◌, subst}
 use Rattle.std.proofs.lemmas.Result.{IfErr-weaker}
 use Rattle.ll_journal.specs.declared.start.Start.{Start}
-use Rattle.ll_client.specs.Coming.{SetsOut}
+use Rattle.ll_client.specs.CallStart.{SetsOut}
 use Rattle.ll_walk.proofs.Walks.{gained, given_back}
 use Rattle.ll_walk.proofs.table.Table.try_call.Goals as goal
 

@@ -3,7 +3,7 @@ use Rattle.ll_decide.specs.declared.demands.On.TheVariants.{Itself, Other, Paren
 use Rattle.ll_seq.specs.Demanded.{chains}
 use Rattle.ll_why.specs.Reasons.{chain_of}
 use Rattle.ll_why.specs.declared.asks.Asks.{Asks}
-use Rattle.ll_why.proofs.Demanding.{are_known}
+use Rattle.ll_why.proofs.RightDemands.{are_known}
 use Rattle.ll_why.proofs.asks.Asks.of_call.Goals as goal
 
 pub returns : goal.returns

@@ -1,6 +1,6 @@
 use Rattle.std.proofs.Common.{◌++◌, [], ap, ◌∙◌, string_bytes}
 use Rattle.ll_why.specs.Difference.{only_paths}
-use Rattle.ll_why.proofs.Differing.{adds}
+use Rattle.ll_why.proofs.PathDifferences.{adds}
 use Rattle.ll_why.proofs.comparison.Comparison.at_all_nodes.Goals as goal
 
 pub returns : goal.returns

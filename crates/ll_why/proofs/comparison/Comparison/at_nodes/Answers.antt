@@ -5,7 +5,7 @@ use Rattle.std.proofs.lemmas.List.Concat.{flat_map-append}
 use Rattle.ll_seq.specs.declared.call.Call.{Call}
 use Rattle.ll_why.specs.Difference.{AreCompared, only_path, only_paths}
 use Rattle.ll_why.specs.PathRows.{made_path}
-use Rattle.ll_why.proofs.Differing.{adds}
+use Rattle.ll_why.proofs.PathDifferences.{adds}
 use Rattle.ll_why.proofs.comparison.Comparison.at_nodes.Goals as goal
 
 pub loop-call-preserved : goal.loop-call-preserved

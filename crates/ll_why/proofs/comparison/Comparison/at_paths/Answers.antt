@@ -1,7 +1,7 @@
 use Rattle.std.proofs.Common.{◌≡◌, ◌+◌, ◌++◌, ◌∷◌, [], take, ap, sym, subst, ◌∙◌, string_bytes}
 use Rattle.std.proofs.lemmas.List.{take_all, take_more}
 use Rattle.ll_why.specs.Difference.{AreCompared}
-use Rattle.ll_why.proofs.Differing.{adds}
+use Rattle.ll_why.proofs.PathDifferences.{adds}
 use Rattle.ll_why.proofs.comparison.Comparison.at_paths.Goals as goal
 
 pub loop-path-preserved : goal.loop-path-preserved

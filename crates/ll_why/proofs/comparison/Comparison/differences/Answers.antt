@@ -3,8 +3,8 @@ use Rattle.std.proofs.lemmas.Bool.{eqb-false, eqb-true}
 use Rattle.std.proofs.lemmas.Result.{IfOk-weaker}
 use Rattle.ll_path.specs.Path.{Path}
 use Rattle.ll_why.specs.Difference.{AreCompared, paths_compared}
-use Rattle.ll_why.proofs.Growing.{empty_is}
-use Rattle.ll_why.proofs.Differing.{some_compared}
+use Rattle.ll_why.proofs.TextGrowth.{empty_is}
+use Rattle.ll_why.proofs.PathDifferences.{some_compared}
 use Rattle.ll_why.proofs.comparison.Comparison.differences.Goals as goal
 
 pub returns-then-is_empty : goal.returns-then-is_empty

@@ -3,7 +3,7 @@ use Rattle.std.specs.Prelude.{false, option_to_list}
 use Rattle.std.proofs.lemmas.List.{append-nil}
 use Rattle.ll_path.specs.Path.{Path}
 use Rattle.ll_why.specs.Difference.{AddsDifferences}
-use Rattle.ll_why.proofs.Differing.{or_false}
+use Rattle.ll_why.proofs.PathDifferences.{or_false}
 use Rattle.ll_why.proofs.TokenTexts.{on_ok}
 use Rattle.ll_why.proofs.comparison.Comparison.push_node.Goals as goal
 

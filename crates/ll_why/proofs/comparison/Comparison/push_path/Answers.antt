@@ -1,7 +1,7 @@
 use Rattle.std.proofs.Common.{◌++◌, ◌||◌, [], ap, false, sym, refl, ◌∙◌, string_bytes}
 use Rattle.std.proofs.lemmas.List.{append-nil}
 use Rattle.ll_why.specs.Difference.{difference_in, differs}
-use Rattle.ll_why.proofs.Differing.{or_false}
+use Rattle.ll_why.proofs.PathDifferences.{or_false}
 use Rattle.ll_why.proofs.TokenTexts.{both_ok}
 use Rattle.ll_why.proofs.comparison.Comparison.push_path.Goals as goal
 

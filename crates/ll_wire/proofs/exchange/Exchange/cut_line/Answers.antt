@@ -1,8 +1,8 @@
 use Rattle.std.proofs.Common.{◌<◌, ◌∙◌, inr, arith}
-use Rattle.ll_wire.specs.Cutting.{IsLeft, most_left}
+use Rattle.ll_wire.specs.LineCuts.{IsLeft, most_left}
 use Rattle.ll_wire.proofs.Cuts.{byte_more, byte_last, no_byte}
 use Rattle.ll_wire.proofs.LeftToRead.{counts_more}
-use Rattle.ll_wire.proofs.Telling.{byte_owes, byte_silent, calls_more}
+use Rattle.ll_wire.proofs.ToldParts.{byte_owes, byte_silent, calls_more}
 use Rattle.ll_wire.proofs.exchange.Exchange.cut_line.Goals as goal
 
 pub returns-then-byte-eq10-clause-line : goal.returns-then-byte-eq10-clause-line

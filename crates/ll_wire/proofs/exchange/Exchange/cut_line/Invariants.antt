@@ -1,6 +1,6 @@
 use Rattle.std.proofs.Common.{◌≡◌, ◌<◌, ◌≤◌, ◌++◌, ◌⊎◌, [], ℕ, List, Some}
 use Rattle.ll_wire.proofs.CutStreams.{IsOpen}
-use Rattle.ll_wire.specs.Cutting.{Calls, CanGoOn, Counts, Holds, IsLeft, IsSilent, most_left}
+use Rattle.ll_wire.specs.LineCuts.{Calls, CanGoOn, Counts, Holds, IsLeft, IsSilent, most_left}
 use Rattle.ll_wire.proofs.exchange.Exchange.cut_line.Given as goal
 
 abbrev pub invariant-loop-byte : goal.invariant-loop-byte

@@ -1,5 +1,5 @@
 use Rattle.std.proofs.Common.{ap}
-use Rattle.ll_wire.proofs.Telling.{ok_both, told_all}
+use Rattle.ll_wire.proofs.ToldParts.{ok_both, told_all}
 use Rattle.ll_wire.proofs.exchange.Exchange.end.Goals as goal
 
 pub returns-clause-tells : goal.returns-clause-tells

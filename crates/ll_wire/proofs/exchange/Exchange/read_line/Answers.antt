@@ -1,5 +1,5 @@
 use Rattle.ll_wire.proofs.Advance.{on_err}
-use Rattle.ll_wire.proofs.Telling.{kept_front, on_ok, told_kept}
+use Rattle.ll_wire.proofs.ToldParts.{kept_front, on_ok, told_kept}
 use Rattle.ll_wire.proofs.exchange.Exchange.read_line.Goals as goal
 
 pub returns-clause-tells : goal.returns-clause-tells

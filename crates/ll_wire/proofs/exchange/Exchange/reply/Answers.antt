@@ -1,8 +1,8 @@
 use Rattle.std.proofs.Common.{ap, subst}
 use Rattle.std.proofs.lemmas.Result.{on_ok_weaker, on_err_weaker}
-use Rattle.ll_wire.specs.Cutting.{CanGoOn, Reading, TellsFront, TellsOn}
+use Rattle.ll_wire.specs.LineCuts.{CanGoOn, Reading, TellsFront, TellsOn}
 use Rattle.ll_wire.proofs.Advance.{on_err}
-use Rattle.ll_wire.proofs.Telling.{front_of, line_front, line_written, owes_less_then}
+use Rattle.ll_wire.proofs.ToldParts.{front_of, line_front, line_written, owes_less_then}
 use Rattle.ll_wire.proofs.exchange.Exchange.reply.Goals as goal
 use Rattle.ll_wire.proofs.exchange.Exchange.reply.Goals.{In_ok-write_kept}
 

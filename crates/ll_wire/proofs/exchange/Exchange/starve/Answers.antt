@@ -1,5 +1,5 @@
 use Rattle.std.proofs.Common.{ap}
-use Rattle.ll_wire.proofs.Telling.{front_all, told_all}
+use Rattle.ll_wire.proofs.ToldParts.{front_all, told_all}
 use Rattle.ll_wire.proofs.exchange.Exchange.starve.Goals as goal
 
 pub returns-in-Ok-clause-front : goal.returns-in-Ok-clause-front

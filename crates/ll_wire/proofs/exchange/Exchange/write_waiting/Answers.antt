@@ -1,7 +1,7 @@
 use Rattle.std.proofs.Common.{ap, subst, ◌∙◌}
 use Rattle.std.specs.Io.KnownBytes.{Appends}
-use Rattle.ll_wire.specs.Writing.{AppendsFront}
-use Rattle.ll_wire.proofs.Telling.{told_front, told_written}
+use Rattle.ll_wire.specs.WriterGains.{AppendsFront}
+use Rattle.ll_wire.proofs.ToldParts.{told_front, told_written}
 use Rattle.ll_wire.proofs.exchange.Exchange.write_waiting.Goals as goal
 
 pub returns-in-Ok-clause-tells : goal.returns-in-Ok-clause-tells

@@ -1,0 +1,69 @@
+"""Turns what was recorded into the nodes of a policy and a file of checks."""
+
+from __future__ import annotations
+
+import os
+from dataclasses import dataclass
+from pathlib import Path
+from typing import List, Optional, Tuple
+
+from ..errors import Fault
+from .events import Note
+from .files import write_all
+from .reader import read
+from .recording import Recording
+from .slim import slimmed
+from .texts import checks_text, first_nodes, need_room, nodes_text
+
+
+@dataclass(frozen=True)
+class Converted:
+    """What came of a log.
+
+    `nodes` is the text of a policy without profiles, and `checks` that of a file of checks. `notes` says what a policy
+    can't say. `calls` counts the calls that ask for rights, and `commands` those that are kept.
+    """
+
+    log: str
+    nodes: str
+    checks: str
+    notes: List[Note]
+    shared: List[Tuple[str, str]]
+    calls: int
+    commands: int
+
+    def told(self) -> List[str]:
+        """Returns a line for all that a policy can't say."""
+        lines = [f"{self.log}:{it.line}: {it.text}" for it in self.notes]
+        text = "are two names of one file, and a policy has two files there"
+        return lines + [f"{self.log}: {one} and {two} {text}" for one, two in self.shared]
+
+    def write(self, nodes: Path, checks: Path, *, replace: bool = False) -> None:
+        """Writes both texts, or none of them. A file that is there already is a `Fault` unless `replace` says so."""
+        write_all([(nodes, self.nodes), (checks, self.checks)], replace=replace)
+
+
+def convert(log: "os.PathLike[str] | str", *, whole: bool = False) -> Converted:
+    """Returns what comes of a log that `record` has made. With `whole` each call has its commands, also one that asks
+    for nothing that another one doesn't ask for.
+
+    A log that was cut or isn't strace's, and one that needs more nodes than a tree has, is a `Fault`.
+    """
+    recording = Recording.load(log)
+    try:
+        trace = read(log, recording.inventory, recording.directory)
+    except OSError as error:
+        raise Fault(f"{os.fspath(log)}: {error.strerror}") from None
+    events = trace.events if whole else slimmed(trace.events)
+    nodes = first_nodes(events)
+    need_room(os.fspath(log), nodes, events)
+    texts = (os.fspath(log), nodes_text(nodes), checks_text(events))
+    commands = sum(len(it.commands) for it in events)
+    return Converted(*texts, trace.notes, trace.tree.shared, len(trace.events), commands)
+
+
+def names_beside(log: "os.PathLike[str] | str", nodes: Optional[str], checks: Optional[str]) -> Tuple[Path, Path]:
+    """Returns the files for both texts: as they are named, or beside the log with its name."""
+    place = Path(log)
+    stem = place.with_suffix("") if place.suffix == ".log" else place
+    return Path(nodes or f"{stem}.nodes.toml"), Path(checks or f"{stem}.check")

@@ -1,6 +1,0 @@
-use Rattle.std.proofs.Common.{◌∙◌}
-use Rattle.ll_check.proofs.Taught.{own_any}
-use Rattle.ll_check.proofs.learning.have_own.Goals as goal
-
-pub returns : goal.returns
-returns c = c.are_own.ensures ∙ own_any c.args.files.now

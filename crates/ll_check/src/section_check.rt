@@ -1,0 +1,117 @@
+//! The check of one section.
+
+ghost use Rattle.std.specs.Prelude.{◌≡◌, length, All, IfOk, IfErr};
+ghost use Rattle.ll_session.specs.Run.{MayEnd};
+ghost use Rattle.ll_check.specs.Report.{IsChecked, Tells};
+ghost use Rattle.ll_check.specs.Replied.{HasReplies};
+ghost use Rattle.ll_wire.specs.Entries.{IsEntry};
+
+use crate::check_text::Test;
+use crate::refused_profile::{push_refusal, refusal_text};
+use crate::reporter::{Reporter, Style, Tally};
+use crate::runner::Runner;
+use crate::test_run::make;
+use crate::styles::{Syntax, TestTexts};
+use ll_program::body_of;
+use ll_seq::{Entry, History, Reply};
+use ll_session::{CallReplies, RunFault, Setup};
+use ll_wire::{SessionFault, escaped};
+use std::alloc::AllocError;
+
+// Returns the syntax of a report that isn't lines of text.
+fn syntax_of(style: Style) -> Option<Syntax> {
+    match style {
+        Style::Quiet | Style::Usual | Style::Verbose => None,
+        Style::Tap => Some(Syntax::Tap),
+        Style::Junit => Some(Syntax::Xml),
+        Style::Json => Some(Syntax::Json),
+    }
+}
+
+impl Reporter<'_> {
+    // Appends that the profile is refused, as a test that fails, unless no test is shown.
+    fn push_refused(
+        &self,
+        out: &mut Vec<u8>,
+        entries: &[Entry],
+        refusal: &Reply,
+    ) -> Result<(), AllocError> {
+        if self.style == Style::Quiet {
+            return Ok(());
+        }
+        let Some(syntax) = syntax_of(self.style) else {
+            return push_refusal(out, self, entries, refusal);
+        };
+        let line = refusal_text(self.alloc, entries, refusal)?;
+        let file = escaped(self.alloc, self.file)?;
+        let texts = TestTexts {
+            file: file.as_bytes(),
+            section: self.section,
+            line: b"0",
+            command: b"profile",
+            wanted: b"accepted",
+            got: body_of(line.as_bytes()),
+            passes: false,
+        };
+        texts.push_in(out, syntax)
+    }
+
+    // Appends the report on the tests.
+    fn report(
+        &self,
+        out: &mut Vec<u8>,
+        tests: &[Test],
+        made: &CallReplies,
+        history: &History,
+    ) -> Result<Tally, AllocError>
+        requires entries { All IsEntry history.now.entries }
+        requires replies { HasReplies (length tests.now) made.now }
+        ensures { IfOk result (Tells self.now.style self.now.file.now self.now.section.now tests.now made.now
+            out.old.items out.new.items) }
+    {
+        match made {
+            CallReplies::Answered(replies) => self.judge(out, tests, replies.as_slice()),
+            CallReplies::Refused(refusal) => {
+                self.push_refused(out, history.entries(), &refusal.reply)?;
+                Ok(Tally {
+                    passed: 0,
+                    failed: 1,
+                })
+            }
+        }
+    }
+}
+
+/// The result of a section's check.
+#[derive(Drop)]
+pub struct CheckedFile {
+    pub tally: Tally,
+    pub made: CallReplies,
+    /// The history of the section's tree.
+    pub history: History,
+}
+
+/// Makes a section's tests in a tree of its own, judges the replies, and appends the report. Errors: a fault of the
+/// run, or memory ran out.
+pub fn check_file<R: Runner>(
+    runner: &R,
+    out: &mut Vec<u8>,
+    reporter: &Reporter<'_>,
+    setup: Setup,
+    tests: &[Test],
+) -> Result<CheckedFile, RunFault>
+    ensures checked { IfOk result (λ checked. IsChecked reporter.now.style setup reporter.now.file.now
+        reporter.now.section.now tests.now checked.made checked.history.entries out.old.items out.new.items
+        checked.tally) }
+    ensures fault { IfErr result (λ fault. MayEnd setup fault) }
+{
+    let (made, history) = make(runner, reporter.alloc, setup, tests)?;
+    match reporter.report(out, tests, &made, &history) {
+        Ok(tally) => Ok(CheckedFile {
+            tally,
+            made,
+            history,
+        }),
+        Err(_) => Err(RunFault::Session(SessionFault::NoMemory)),
+    }
+}

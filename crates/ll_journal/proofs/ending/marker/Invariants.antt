@@ -1,5 +1,0 @@
-use Rattle.ll_journal.proofs.Markers.{NobodyBefore}
-use Rattle.ll_journal.proofs.ending.marker.Given as goal
-
-abbrev pub invariant-loop-place : goal.invariant-loop-place
-invariant-loop-place l = NobodyBefore l.seats l.inode l.place

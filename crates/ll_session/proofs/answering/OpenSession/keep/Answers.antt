@@ -1,6 +1,0 @@
-use Rattle.std.proofs.Common.{subst, sym}
-use Rattle.ll_session.specs.Keeping.{AreKept}
-use Rattle.ll_session.proofs.answering.OpenSession.keep.Goals as goal
-
-pub returns-clause-kept : goal.returns-clause-kept
-returns-clause-kept g c = subst (AreKept c.keep-self.result) (sym c.keep-self.ensures.same) c.keep-self.ensures.kept
