@@ -99,7 +99,7 @@ module _ (order : LearnOrder) (policy : List ℕ) (profile : LearnedProfile) whe
           makes = checked.0;
           enough = enough;
         }),
-        ap (λ (n : ℕ). eqb n 0) checked.1.1,
+        ap (λ (n : ℕ). eqb n 0) checked.1.3,
       )
 
   -- a file whose trial passes passes

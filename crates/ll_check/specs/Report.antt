@@ -1,5 +1,5 @@
 -- What the check of a section writes, and how its tests are judged. own
-use Rattle.std.specs.Prelude.{◌≡◌, ◌↔◌, IsTrue, ℕ, Bool, not, List, [], ◌++◌, codes, decimal, map}
+use Rattle.std.specs.Prelude.{◌≡◌, ◌↔◌, IsTrue, ℕ, Bool, false, not, List, [], ◌++◌, codes, decimal, map}
 use Rattle.std.specs.Prelude.{◌==◌, if◌then◌else◌, length}
 use Rattle.std.specs.List.{AllByRecursion, count_by, flat_map}
 use Rattle.ll_seq.specs.declared.reply.Entry.{Entry}
@@ -92,6 +92,32 @@ shown Tap file section it = tap_test (texts file section it)
 shown Junit file section it = junit_test (texts file section it)
 shown Json file section it = json_test (texts file section it)
 
+-- ---- a refused profile
+
+-- a refused profile as texts: a test `profile` at line 0, which isn't accepted. What is told of it is free
+abbrev pub refused_texts : (file section told : List ℕ) → Texts
+refused_texts file section told =
+    record {
+      file = escaped file;
+      section = section;
+      line = codes "0";
+      command = codes "profile";
+      wanted = codes "accepted";
+      got = body_of told;
+      passes = false;
+    }
+
+abbrev pub refused_line : (file section told : List ℕ) → List ℕ
+refused_line file section told = file ++ codes ": " ++ label section ++ codes "profile refused: " ++ told
+
+abbrev pub shown_refused : Style → (file section told : List ℕ) → List ℕ
+shown_refused Quiet file section told = []
+shown_refused Usual file section told = refused_line file section told
+shown_refused Verbose file section told = refused_line file section told
+shown_refused Tap file section told = tap_test (refused_texts file section told)
+shown_refused Junit file section told = junit_test (refused_texts file section told)
+shown_refused Json file section told = json_test (refused_texts file section told)
+
 -- ---- a whole section
 
 -- the tests are judged by their replies, the report on them is appended, and this many pass and fail
@@ -102,13 +128,14 @@ Judges style file section tests replies before after tally =
     × (after ≡ before ++ flat_map (shown style file section) verdicts)
     × (tally.passed ≡ passed verdicts) × (tally.failed ≡ failed verdicts)
 
--- The report on tests after their calls were made. A refused profile counts as one failed test; no definition says how
--- that is reported
+-- The report on tests after their calls were made. A refused profile is reported and counts as one failed test
 abbrev pub Tells : Style → (file section : List ℕ) → List Test → CallReplies → (before after : List ℕ) → Tally
     → Type 0
 Tells style file section tests (Answered replies) before after tally =
     Judges style file section tests replies.items before after tally
-Tells style file section tests (Refused refusal) before after tally = (tally.passed ≡ 0) × (tally.failed ≡ 1)
+Tells style file section tests (Refused refusal) before after tally =
+    (told : List ℕ) × (after ≡ before ++ shown_refused style file section told) × (tally.passed ≡ 0)
+    × (tally.failed ≡ 1)
 
 -- the tests' calls are made with this setup, which leaves these entries, and the tests are reported and counted
 abbrev pub IsChecked : Style → Setup → (file section : List ℕ) → List Test → CallReplies → List Entry

@@ -17,11 +17,11 @@ ghost use Rattle.ll_check.specs.Lessons.{AreTaught, AreTried, EndsLessons, Fails
 ghost use Rattle.ll_check.specs.Lessons.{IsBlank, IsHindered, IsProfile, IsTaughtBy, TeachNothing, is_of_lessons};
 ghost use Rattle.ll_check.specs.Lessons.{learner, lessons_of, picked};
 
+use crate::check_text::ReadFile;
 use crate::checks::{NamedText, TestKind, have_tests, read_all, tell_bad, tell_untested};
 use crate::crowd::{Crowd, crowd_of};
 use crate::denied::Notes;
 use crate::lessons::{FileLessons, LessonNotes, lessons_in};
-use crate::check_text::ReadFile;
 use crate::runner::Runner;
 use crate::teacher::teach_all;
 use crate::trees::Trees;
@@ -231,7 +231,7 @@ fn tell_many<E: Write>(profile: &LearnedProfile, most: usize, err: &mut E) {
     }
     let _ = match crowd_of(profile.rules.as_slice()) {
         Some(Crowd { directory, rules }) if rules > 1 => {
-            writeln!(err, "--beneath DIR, where {directory} has {rules}")
+            writeln!(err, "--beneath {directory}, which has {rules}")
         }
         _ => writeln!(err, "--beneath DIR"),
     };

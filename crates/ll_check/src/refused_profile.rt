@@ -1,6 +1,9 @@
 //! What is printed about a refused profile.
 
-use crate::reporter::{Reporter, push_label};
+ghost use Rattle.std.specs.Prelude.{◌≡◌, ◌++◌, OnOk};
+ghost use Rattle.ll_check.specs.Report.{refused_line};
+
+use crate::reporter::push_label;
 use ll_seq::{Call, Entry, Reply};
 use ll_wire::{command_text, is_spelled, reply_line, reply_text_behind};
 use std::alloc::{AllocError, Global};
@@ -98,17 +101,17 @@ pub fn refusal_text(
 }
 
 /// Appends a line on a profile that is refused, behind the names of the file and the section. Errors: memory ran out.
-/// No contract says how.
-pub fn push_refusal(
+pub(crate) fn push_refusal(
     out: &mut Vec<u8>,
-    reporter: &Reporter<'_>,
-    entries: &[Entry],
-    refusal: &Reply,
-) -> Result<(), AllocError> {
-    let line = refusal_text(reporter.alloc, entries, refusal)?;
-    out.extend_from_slice(reporter.file)?;
+    file: &[u8],
+    section: &[u8],
+    line: &[u8],
+) -> Result<(), AllocError>
+    ensures { OnOk result (out.new.items ≡ out.old.items ++ refused_line file.now section.now line.now) }
+{
+    out.extend_from_slice(file)?;
     out.extend_from_slice(b": ")?;
-    push_label(out, reporter.section)?;
+    push_label(out, section)?;
     out.extend_from_slice(b"profile refused: ")?;
-    out.extend_from_slice(line.as_bytes())
+    out.extend_from_slice(line)
 }

@@ -1,48 +1,35 @@
 //! The check of one section.
 
-ghost use Rattle.std.specs.Prelude.{◌≡◌, length, All, IfOk, IfErr};
+ghost use Rattle.std.specs.Prelude.{◌≡◌, ◌++◌, length, All, IfOk, IfErr, OnOk};
 ghost use Rattle.ll_session.specs.Run.{MayEnd};
-ghost use Rattle.ll_check.specs.Report.{IsChecked, Tells};
+ghost use Rattle.ll_check.specs.Report.{IsChecked, Tells, refused_texts, shown_refused};
 ghost use Rattle.ll_check.specs.Replied.{HasReplies};
+ghost use Rattle.ll_check.specs.Styles.{test_in};
 ghost use Rattle.ll_wire.specs.Entries.{IsEntry};
 
 use crate::check_text::Test;
 use crate::refused_profile::{push_refusal, refusal_text};
 use crate::reporter::{Reporter, Style, Tally};
 use crate::runner::Runner;
-use crate::test_run::make;
 use crate::styles::{Syntax, TestTexts};
+use crate::test_run::make;
 use ll_program::body_of;
-use ll_seq::{Entry, History, Reply};
+use ll_seq::History;
 use ll_session::{CallReplies, RunFault, Setup};
 use ll_wire::{SessionFault, escaped};
 use std::alloc::AllocError;
 
-// Returns the syntax of a report that isn't lines of text.
-fn syntax_of(style: Style) -> Option<Syntax> {
-    match style {
-        Style::Quiet | Style::Usual | Style::Verbose => None,
-        Style::Tap => Some(Syntax::Tap),
-        Style::Junit => Some(Syntax::Xml),
-        Style::Json => Some(Syntax::Json),
-    }
-}
-
 impl Reporter<'_> {
-    // Appends that the profile is refused, as a test that fails, unless no test is shown.
-    fn push_refused(
+    // Appends in this syntax that the profile is refused, as a test that fails.
+    fn push_refused_in(
         &self,
         out: &mut Vec<u8>,
-        entries: &[Entry],
-        refusal: &Reply,
-    ) -> Result<(), AllocError> {
-        if self.style == Style::Quiet {
-            return Ok(());
-        }
-        let Some(syntax) = syntax_of(self.style) else {
-            return push_refusal(out, self, entries, refusal);
-        };
-        let line = refusal_text(self.alloc, entries, refusal)?;
+        syntax: Syntax,
+        line: &[u8],
+    ) -> Result<(), AllocError>
+        ensures { OnOk result (out.new.items ≡ out.old.items
+            ++ test_in syntax (refused_texts self.now.file.now self.now.section.now line.now)) }
+    {
         let file = escaped(self.alloc, self.file)?;
         let texts = TestTexts {
             file: file.as_bytes(),
@@ -50,10 +37,24 @@ impl Reporter<'_> {
             line: b"0",
             command: b"profile",
             wanted: b"accepted",
-            got: body_of(line.as_bytes()),
+            got: body_of(line),
             passes: false,
         };
         texts.push_in(out, syntax)
+    }
+
+    // Appends that the profile is refused, which this line tells, unless no test is shown.
+    fn push_refused(&self, out: &mut Vec<u8>, line: &[u8]) -> Result<(), AllocError>
+        ensures { OnOk result (out.new.items ≡ out.old.items
+            ++ shown_refused self.now.style self.now.file.now self.now.section.now line.now) }
+    {
+        match self.style {
+            Style::Quiet => Ok(()),
+            Style::Usual | Style::Verbose => push_refusal(out, self.file, self.section, line),
+            Style::Tap => self.push_refused_in(out, Syntax::Tap, line),
+            Style::Junit => self.push_refused_in(out, Syntax::Xml, line),
+            Style::Json => self.push_refused_in(out, Syntax::Json, line),
+        }
     }
 
     // Appends the report on the tests.
@@ -72,7 +73,8 @@ impl Reporter<'_> {
         match made {
             CallReplies::Answered(replies) => self.judge(out, tests, replies.as_slice()),
             CallReplies::Refused(refusal) => {
-                self.push_refused(out, history.entries(), &refusal.reply)?;
+                let line = refusal_text(self.alloc, history.entries(), &refusal.reply)?;
+                self.push_refused(out, line.as_bytes())?;
                 Ok(Tally {
                     passed: 0,
                     failed: 1,

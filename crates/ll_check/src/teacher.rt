@@ -7,10 +7,10 @@ ghost use Rattle.ll_check.specs.Lessons.{AreMet, AreTaught, AreUnmet, FailsToMak
 ghost use Rattle.ll_check.specs.Lessons.{IsLearnedFrom, IsUnmet, picked};
 ghost use Rattle.ll_check.specs.Replied.{HasReplies};
 
-use crate::reporter::{Reporter, Style};
-use crate::lessons::FileLessons;
 use crate::check_text::Test;
-use crate::refused_profile::push_refusal;
+use crate::lessons::FileLessons;
+use crate::refused_profile::{push_refusal, refusal_text};
+use crate::reporter::{Reporter, Style};
 use crate::runner::Runner;
 use crate::test_run::{failure_of, make_lessons, ran_out};
 use crate::trees::Trees;
@@ -41,7 +41,16 @@ fn tell_unmet<E: Write>(reporter: &Reporter<'_>, lesson: &Test, reply: &Reply, e
 // Prints that a file's tree isn't opened.
 fn tell_refusal<E: Write>(reporter: &Reporter<'_>, history: &History, reply: &Reply, err: &mut E) {
     let mut report = Vec::new(reporter.alloc);
-    if push_refusal(&mut report, reporter, history.entries(), reply).is_ok() {
+    let Ok(line) = refusal_text(reporter.alloc, history.entries(), reply) else {
+        return;
+    };
+    let pushed = push_refusal(
+        &mut report,
+        reporter.file,
+        reporter.section,
+        line.as_bytes(),
+    );
+    if pushed.is_ok() {
         let _ = err.write_all(report.as_slice());
     }
 }
