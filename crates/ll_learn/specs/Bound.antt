@@ -17,7 +17,8 @@ use Rattle.ll_seq.specs.Step.{client_of}
 use Rattle.ll_seq.specs.Tree.{ancestors}
 use Rattle.ll_laws.specs.NoGain.{is_move}
 use Rattle.ll_why.specs.Reasons.{kept_number}
-use Rattle.ll_learn.specs.Passing.{AllowsRun, IsLearnable, Openings, Passes, is_client, joins, none_known, opened_at}
+use Rattle.ll_learn.specs.PassedCalls.{AllowsRun, IsLearnable, Openings, Passes, is_client, joins, none_known}
+use Rattle.ll_learn.specs.PassedCalls.{opened_at}
 
 -- each successful move is made by a client that the layer is on
 abbrev pub MovesAreTheirs : (ℕ → Bool) → List Entry → Type 0

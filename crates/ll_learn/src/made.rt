@@ -48,13 +48,16 @@ impl Uses<'_> {
             && is_below(site.path.as_str(), above.as_str()))
     }
 
-    // Reports whether the ask for this right, which the rule on the directory grants, is for a node made later. A
-    // directory is asked for a file's right where the file is missing.
-    fn is_for_made(&self, right: Right, directory: u64, asked: &Asked) -> bool {
-        match asked.inodes.last() {
-            Some(last) if *last == directory => Access::FILE.holds(right),
-            Some(last) => self.tree.kind(*last).is_none(),
-            None => false,
+    // Reports whether the ask for this right is for a node made later. A directory is asked for a file's right if the
+    // file is missing.
+    fn is_for_made(&self, right: Right, asked: &Asked) -> bool {
+        let Some(last) = asked.inodes.last() else {
+            return false;
+        };
+        match self.tree.kind(*last) {
+            Some(Kind::Dir) => Access::FILE.holds(right),
+            Some(_) => false,
+            None => true,
         }
     }
 
@@ -69,7 +72,7 @@ impl Uses<'_> {
         let mut is_needed = false;
         for asked in &self.needs.asks {
             if !is_granted_without(&held, directory, right, asked) {
-                if !self.is_for_made(right, directory, asked) {
+                if !self.is_for_made(right, asked) {
                     return Ok(false);
                 }
                 is_needed = true;
