@@ -42,6 +42,12 @@ const OUTPUT: Purpose<'static> = Purpose {
     device: Device::StandardOutput,
 };
 
+// Where a command writes faults, hints and a log.
+const MESSAGES: Purpose<'static> = Purpose {
+    what: "stream of messages",
+    device: Device::StandardError,
+};
+
 fn policy_of<'a>(name: Option<&'a str>) -> Option<Purpose<'a>> {
     let device = Device::File(name?);
     Some(Purpose {
@@ -131,7 +137,8 @@ pub fn run_options<S: Sources + Wait, W: Write>(
         what: "script",
         device: Device::input(named(options.script)),
     };
-    let used = [Some(script), policy_of(options.tree.policy), Some(OUTPUT)];
+    let policy = policy_of(options.tree.policy);
+    let used = [Some(script), policy, Some(OUTPUT), Some(MESSAGES)];
     if let Some(clash) = Clash::find(rt, "history", options.save, &used) {
         hints.add(&clash);
         return Err(Failure::File);
@@ -303,7 +310,8 @@ pub fn schedule_options<S: Sources, W: Write>(
         what: "schedule",
         device: Device::input(named(options.file)),
     };
-    if let Some(clash) = Clash::find(rt, "picture", options.picture, &[Some(file), Some(OUTPUT)]) {
+    let used = [Some(file), Some(OUTPUT), Some(MESSAGES)];
+    if let Some(clash) = Clash::find(rt, "picture", options.picture, &used) {
         hints.add(&clash);
         return Err(Failure::File);
     }
@@ -411,7 +419,7 @@ pub fn serve_options<S: Sources + Threads + Wait + Sync, B: Binds, W: Write>(
         hints.of_misfit(Misfit::of_serve(options));
         return Err(Failure::CommandLine);
     }
-    let used = [policy_of(options.tree.policy), Some(OUTPUT)];
+    let used = [policy_of(options.tree.policy), Some(OUTPUT), Some(MESSAGES)];
     if let Some(clash) = Clash::find(rt, "history", options.save, &used) {
         hints.add(&clash);
         return Err(Failure::File);

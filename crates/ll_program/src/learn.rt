@@ -239,7 +239,7 @@ pub(crate) fn learn_command<'a>(alloc: Global) -> Result<Command<'a>, AllocError
         "learn",
         "Writes the least profile under which calls get the same replies",
         "Example: landtree learn build.check --policy nodes.toml >build.toml{n}\
-         --explain, or a terminal, adds reasons to a fault",
+         --terse leaves out the reasons of a fault",
         arguments,
     )
 }

@@ -25,10 +25,9 @@ pub(crate) const IDLE_SECONDS: u64 = 3600;
 /// The most memory for a connection's lines and replies, in megabytes.
 pub(crate) const ROOM_MEGABYTES: u64 = 65_536;
 
-/// The options of `serve`: the port; the number of connections in all, and at once; after how many idle seconds a
-/// connection is closed, if ever; how many megabytes its lines and replies may take; whether to log each; the limit of
-/// live nodes of the shared tree; the ABI level, or the policy file and the profile of each connection's first client;
-/// the limit of history entries, and the file to save the history in, if any.
+/// The options of `serve`: the port; how many connections are served at once, and in all; after how many idle seconds
+/// a connection is closed, if ever; how many megabytes its lines and replies may take; whether to log each; how the
+/// shared tree is set up; and the file to save the history in, if any.
 #[derive(Drop)]
 pub struct ServeOptions<'a> {
     pub port: u16,

@@ -21,7 +21,7 @@ pub struct Pair<'a, R, W> {
 }
 
 impl<'a, R, W> Pair<'a, R, W> {
-    /// Returns the two devices, of which nothing is read or written yet. Line feeds are answered where that is so.
+    /// Returns the two devices before anything is read or written. `is_answering` says whether line feeds are answered.
     pub fn new(reader: &'a mut R, writer: &'a mut W, is_answering: bool) -> Pair<'a, R, W>
         ensures { result ≡ record {
           reader = reader.entry;
