@@ -145,10 +145,10 @@ def judge(program, case):
 
 
 def crowd_in(rules):
-    """What is said of the directory, other than the root, that most of the rules' nodes are right in."""
+    """The directory, other than the root, that most of the rules' nodes are right in, and how many; or DIR."""
     above = [rule["path"].rpartition("/")[0] for rule in rules]
     crowd = max(filter(None, above), key=above.count, default="")
-    return f", where {crowd} has {above.count(crowd)}" if crowd and above.count(crowd) > 1 else ""
+    return f"{crowd}, which has {above.count(crowd)}" if crowd and above.count(crowd) > 1 else "DIR"
 
 
 def judge_profile(learning, judged, notes):
@@ -164,7 +164,7 @@ def judge_profile(learning, judged, notes):
         same((status, out.split("\n")[0]), (3, first), f"the check without {right} on {path}")
     rules = len(profile.rules)
     if rules > 1:
-        many = f"{rules} rules, {rules - 1} may be: --most 256, or --beneath DIR{crowd_in(profile.rules)}\n"
+        many = f"{rules} rules, {rules - 1} may be: --most 256, or --beneath {crowd_in(profile.rules)}\n"
         learning.wants(2, many + COMMAND_LINE, "--most", str(rules - 1))
     judge_more(learning, judged, notes)
 

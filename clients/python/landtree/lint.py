@@ -21,6 +21,14 @@ OPEN = (
 )
 
 
+# Directories that others use too, and what a right on all of one reaches.
+SHARED = {
+    "/proc": (Rights.READ_FILE, "it reads all of /proc, so the command lines of other processes too"),
+    "/tmp": (Rights.WRITE_FILE, "it writes what others have in /tmp: a TMPDIR of its own keeps that apart"),
+    "/var/tmp": (Rights.WRITE_FILE, "it writes what others have in /var/tmp: a TMPDIR of its own keeps that apart"),
+}
+
+
 @dataclass(frozen=True)
 class Finding:
     """Something in a policy that its author may not want, and the place of it."""
@@ -80,6 +88,9 @@ def layer_findings(abi: int, place: str, layer: Layer) -> Iterator[Finding]:
 def rule_findings(place: str, layer: Layer) -> Iterator[Finding]:
     """Yields the rules whose rights other rules of the layer grant there too."""
     for number, rule in enumerate(layer.rules, 1):
+        right, shared = SHARED.get(rule.path, (Rights.NONE, ""))
+        if right and right in rule.rights:
+            yield Finding(f"{place}, rule {number}", shared)
         others = {rule.path, "/", *ancestors(rule.path)}
         granted = Rights.NONE
         for other_number, other in enumerate(layer.rules, 1):

@@ -89,6 +89,8 @@ def need_program(commands: Commands) -> None:
 def new_folder(folder: Path) -> Path:
     try:
         folder.mkdir()
+    except FileExistsError:
+        raise Fault(f"{folder}: it is there already; --to names another directory") from None
     except OSError as error:
         raise Fault(f"{folder}: {error.strerror}") from None
     return folder.resolve()

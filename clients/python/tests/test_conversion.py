@@ -41,6 +41,11 @@ class Slim(Tracing):
         lines = [f'open("new{it}", O_WRONLY|O_CREAT, 0666) = 3</w/new{it}>' for it in range(9)]
         self.assertEqual(self.slim(*lines), ["open wc /w/new0 = fd 0"])
 
+    def test_a_file_that_was_there_is_kept_below_what_is_made(self):
+        # The rule on /w grants write_file for what is made there. That it reaches f too is known by its opening alone.
+        lines = ['open("new", O_WRONLY|O_CREAT, 0666) = 3</w/new>', *['open("f", O_WRONLY) = 3</w/f>'] * 2]
+        self.assertEqual(self.slim(*lines), ["open wc /w/new = fd 0", "open w /w/f = fd 0"])
+
     def test_what_a_kept_one_names_comes_with_it(self):
         # Of the two directories and files the second ones ask for nothing new, but one is executed.
         lines = ['mkdir("n", 0777) = 0', 'mkdir("m", 0777) = 0']
@@ -99,6 +104,16 @@ class Files(Case):
     def test_what_is_told(self):
         converted = convert(self.recorded('7 chroot("/w") = 0\n7 +++ exited with 0 +++\n'))
         self.assertEqual(converted.told(), [f"{self.log}:1: chroot changes what paths mean"])
+
+    def test_what_comes_often_is_told_once(self):
+        converted = convert(self.recorded('7 chroot("/w") = 0\n' * 3 + "7 +++ exited with 0 +++\n"))
+        self.assertEqual(converted.told(), [f"{self.log}:1: chroot changes what paths mean (and 2 times more)"])
+
+    def test_a_file_beside_what_is_made(self):
+        # So `learn` tells that the rule on /w reaches a file that was there.
+        entries = {"/w": ["dir", None, None], "/w/old": ["reg", None, None]}
+        converted = convert(self.recorded(entries=entries))
+        self.assertEqual(load_policy(converted.nodes).nodes, [Node("/w", "dir"), Node("/w/old", "reg")])
 
     def test_whole(self):
         twice = self.LOG.splitlines(keepends=True)[0] + self.LOG

@@ -48,6 +48,17 @@ class Linting(Case):
         text = "profile p, layer 1: it doesn't handle read_file,read_dir,make_sym, so it denies none of these anywhere"
         self.assertEqual(self.found(), [text])
 
+    def test_directories_that_others_use_too(self):
+        layer = self.policy.layer("p", "all")
+        self.policy.allow(layer, "/proc", "read_file")
+        self.policy.allow(layer, "/tmp", "write_file, truncate, make_reg")
+        self.policy.allow(layer, "/var/tmp", "read_dir")
+        place = "profile p, layer 1, rule"
+        self.assertEqual(self.found(), [
+            f"{place} 1: it reads all of /proc, so the command lines of other processes too",
+            f"{place} 2: it writes what others have in /tmp: a TMPDIR of its own keeps that apart",
+        ])
+
     def test_rules_that_add_nothing(self):
         layer = self.policy.layer("p", "all")
         self.policy.allow(layer, "/a/b", "read")

@@ -87,6 +87,11 @@ class Recording(Case):
     def test_streams_are_passed_on(self):
         self.assertEqual(self.record("--", "cat", stdin=None, input="typed").stdout, "typed")
 
+    def test_it_has_the_descriptors(self):
+        with open(self.room / "out", "w") as out:
+            ended = self.record("--", "sh", "-c", f"echo hi >&{out.fileno()}", pass_fds=[out.fileno()])
+        self.assertEqual((ended.returncode, (self.room / "out").read_text()), (0, "hi\n"))
+
     def test_what_was_there_asks_otherwise(self):
         self.put("f")
         self.record("--", "sh", "-c", "echo x >f; echo x >new")
@@ -240,7 +245,8 @@ class Touring(Case):
     def test_a_directory_that_is_there(self):
         (self.home / "landtree.try").mkdir()
         ended = self.tour("--", "touch", "ran")
-        self.assertEqual((ended.returncode, ended.stderr), (125, "landtree: landtree.try: File exists\n"))
+        text = "landtree: landtree.try: it is there already; --to names another directory\n"
+        self.assertEqual((ended.returncode, ended.stderr), (125, text))
         self.assertFalse((self.home / "ran").exists())
 
     def test_no_program(self):

@@ -5,7 +5,7 @@ from __future__ import annotations
 import os
 from dataclasses import dataclass
 from pathlib import Path
-from typing import List, Optional, Tuple
+from typing import Dict, List, Optional, Tuple
 
 from ..errors import Fault
 from .events import Note
@@ -13,7 +13,7 @@ from .files import write_all
 from .reader import read
 from .recording import Recording
 from .slim import slimmed
-from .texts import checks_text, first_nodes, need_room, nodes_text
+from .texts import beside_made, checks_text, first_nodes, need_room, nodes_text
 
 
 @dataclass(frozen=True)
@@ -33,8 +33,12 @@ class Converted:
     commands: int
 
     def told(self) -> List[str]:
-        """Returns a line for all that a policy can't say."""
-        lines = [f"{self.log}:{it.line}: {it.text}" for it in self.notes]
+        """Returns a line for all that a policy can't say, with the first line of the log that shows it."""
+        places: Dict[str, List[int]] = {}
+        for it in self.notes:
+            places.setdefault(it.text, []).append(it.line)
+        more = {text: f" (and {len(at) - 1:,} times more)" if len(at) > 1 else "" for text, at in places.items()}
+        lines = [f"{self.log}:{at[0]}: {text}{more[text]}" for text, at in places.items()]
         text = "are two names of one file, and a policy has two files there"
         return lines + [f"{self.log}: {one} and {two} {text}" for one, two in self.shared]
 
@@ -56,6 +60,7 @@ def convert(log: "os.PathLike[str] | str", *, whole: bool = False) -> Converted:
         raise Fault(f"{os.fspath(log)}: {error.strerror}") from None
     events = trace.events if whole else slimmed(trace.events)
     nodes = first_nodes(events)
+    nodes = sorted([*nodes, *beside_made(events, nodes, trace.tree)], key=lambda it: it.path.split("/"))
     need_room(os.fspath(log), nodes, events)
     texts = (os.fspath(log), nodes_text(nodes), checks_text(events))
     commands = sum(len(it.commands) for it in events)

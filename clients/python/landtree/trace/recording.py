@@ -172,7 +172,9 @@ def status_of(
     """
     begin = None if layer is None else functools.partial(landlock.restrict_self, layer)
     with ignoring_interrupts():
-        return subprocess.run(words, cwd=directory, env=environment, preexec_fn=begin, check=False).returncode
+        # The program has this process's descriptors, as it has under `exec`.
+        ran = subprocess.run(words, cwd=directory, env=environment, preexec_fn=begin, close_fds=False, check=False)
+        return ran.returncode
 
 
 @contextlib.contextmanager

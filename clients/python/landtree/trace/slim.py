@@ -7,11 +7,13 @@ from the events that are kept.
 
 from __future__ import annotations
 
-from typing import Dict, Hashable, List, Sequence, Set, Tuple
+from typing import Dict, Hashable, List, Optional, Sequence, Set, Tuple
 
-from .events import Event
+from .events import Ask, Event
 from .tree import Chain, Node
 
+# Rights of files: a hint of `learn` tells if a directory needs one only for what is made there.
+FILE_WORDS = ("execute", "write_file", "read_file", "truncate")
 # A chain as the paths that its nodes had when the program began. Nodes that came later hold no rule.
 Places = Tuple[str, ...]
 
@@ -53,8 +55,16 @@ def slimmed(events: Sequence[Event]) -> List[Event]:
 def needs_of(event: Event, least: Set[Tuple[str, Places]]) -> Set[Hashable]:
     """Returns the asks of an event that count, and its moves."""
     asks = {(ask.right, places_of(ask.chain)) for ask in event.asks}
+    of_files = [it for it in event.asks if it.right in FILE_WORDS and it.chain[-1].start]
+    below = {("below", *it) for it in (granting(ask, least) for ask in of_files) if it}
     moves = {(move.kind, places_of(move.own), places_of(move.into)) for move in event.moves}
-    return {*(asks & least), *moves}
+    return {*(asks & least), *below, *moves}
+
+
+def granting(ask: Ask, least: Set[Tuple[str, Places]]) -> Optional[Tuple[str, Places]]:
+    """Returns the ask that implies this one of a file which was there, so that one such file is known below it."""
+    places = places_of(ask.chain)
+    return next(((ask.right, places[:it]) for it in range(1, len(places)) if (ask.right, places[:it]) in least), None)
 
 
 def with_needed(events: Sequence[Event], kept: Set[int]) -> Set[int]:

@@ -10,6 +10,7 @@ from ..names import encoded, unfit
 from ..policy import Policy
 from ..values import DIRECTORY_NAMES, TREE_NODES
 from .events import Event
+from .tree import Tree
 
 
 def first_nodes(events: Iterable[Event]) -> List[Node]:
@@ -21,6 +22,30 @@ def first_nodes(events: Iterable[Event]) -> List[Node]:
             kinds.update((node.start, node.kind) for node in chain if node.start is not None and node.is_lasting)
     kinds.pop("/", None)
     return [Node(encoded(path), kinds[path]) for path in sorted(kinds, key=lambda it: it.split("/"))]
+
+
+def directories_of(path: str) -> List[str]:
+    """Returns the directories above a path, the root as an empty text."""
+    names = path.split("/")
+    return ["/".join(names[:length]) for length in range(1, len(names))]
+
+
+def beside_made(events: Sequence[Event], nodes: Sequence[Node], tree: Tree) -> List[Node]:
+    """Returns a file that was in each directory in which files are made, if no node is there.
+
+    `landtree learn` tells that what is granted there for new files reaches such a file too.
+    """
+    known = {above or "/" for it in nodes for above in directories_of(it.path)}
+    found: Dict[str, Node] = {}
+    for event in events:
+        for ask in event.asks:
+            start = ask.chain[-1].start if ask.right.startswith("make_") else None
+            if start is None or not ask.chain[-1].is_lasting or encoded(start) in known or encoded(start) in found:
+                continue
+            inside = tree.first_old(ask.chain[-1])
+            if inside and inside.start and not unfit(encoded(inside.start)):
+                found[encoded(start)] = Node(encoded(inside.start), inside.kind)
+    return list(found.values())
 
 
 def nodes_text(nodes: Sequence[Node]) -> str:

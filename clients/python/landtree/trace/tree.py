@@ -2,6 +2,7 @@
 
 from __future__ import annotations
 
+import posixpath
 import re
 from dataclasses import dataclass, field
 from typing import Callable, Dict, List, Optional, Tuple
@@ -164,6 +165,14 @@ class Tree:
         """Returns something that lies in a directory, if it is known."""
         for node in directory.names.values():
             if node is not None:
+                return node
+        name = self.inventory.first_in(directory.start) if directory.start else None
+        return None if name is None or name in directory.names else self.look(directory, name, 0)
+
+    def first_old(self, directory: Node) -> Optional[Node]:
+        """Returns something that lay in a directory when the program began, and lies there yet, if it is known."""
+        for node in directory.names.values():
+            if node is not None and node.start and posixpath.dirname(node.start) == directory.start:
                 return node
         name = self.inventory.first_in(directory.start) if directory.start else None
         return None if name is None or name in directory.names else self.look(directory, name, 0)
