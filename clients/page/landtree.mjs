@@ -266,8 +266,19 @@ async function moduleBeside(fs) {
   }
 }
 
+// The comment at the head of this file.
+function usage(fs) {
+  const lines = fs.readFileSync(new URL(import.meta.url), 'utf8').split('\n');
+  const head = lines.slice(0, lines.findIndex((it) => !it.startsWith('//')));
+  return head.map((it) => `${it.replace(/^\/\/ ?/, '')}\n`).join('');
+}
+
 async function main(words) {
   const fs = await import('node:fs');
+  if (words.includes('--help')) {
+    fs.writeSync(1, usage(fs));
+    return;
+  }
   const tree = await moduleBeside(fs);
   const read = (name) => fs.readFileSync(name === '-' ? 0 : name);
   const { status, bytes, isFault = status !== DONE && status !== ENDED } =
