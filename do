@@ -1,7 +1,7 @@
 #!/bin/sh
 # What a contributor runs, from anywhere:
 #   ./do check [CRATE..]    prove these crates, or those whose files differ from origin/main, and the crates below them
-#   ./do fast               what needs no proof: ten minutes
+#   ./do fast               what needs no proof: 5-10 minutes
 #   ./do gate               all: what CI runs (./test)
 #   ./do fmt                lay out each crate
 #   ./do docs               write what is generated: the picture of the crates, the index, the counts of words
