@@ -169,6 +169,7 @@ module _ (rules : Rules) (room : ℕ) (early : List Entry) (legal : IsLegal (sta
         handled = is.handled ∙ framed.handled;
         held = is_held;
         named = is.named s framed.held framed.sites;
+        once = is.once s framed.held framed.sites;
         passes = λ layer of. passing layer (is.meets layer of);
         needed = λ layer of inode right known has less without passes.
             is.needed layer of inode right known has less without (meeting less passes);

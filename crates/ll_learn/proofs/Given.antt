@@ -1,12 +1,13 @@
 -- What lists of rules give, and what sets of rights hold after a change.
 use Rattle.std.proofs.Common.{◌≡◌, ◌∙◌, ◌<◌, ◌==◌, ◌&&◌, ◌||◌, ℕ, zero, suc, Bool, true, false, List, [], ◌∷◌}
-use Rattle.std.proofs.Common.{◌++◌, ◌+◌}
+use Rattle.std.proofs.Common.{◌++◌, ◌+◌, arith, cond}
 use Rattle.std.proofs.Common.{Some, ap, sym, refl, length, take, get_or, ◌⊎◌, inl, inr}
 use Rattle.std.specs.Prelude.{slice_get, slice_index_or, slice_set}
-use Rattle.std.specs.List.{list_any}
+use Rattle.std.specs.List.{count_by, list_any}
 use Rattle.std.proofs.lemmas.Bool.{eqb-true}
 use Rattle.std.proofs.lemmas.List.{take_more}
 use Rattle.std.proofs.lemmas.List.Folds.{list_any-append}
+use Rattle.std.proofs.lemmas.List.Sums.{sum_by-append, sum_by-cons}
 use Rattle.std.proofs.lemmas.Option.{get_or_from_slice_get, slice_get_read}
 
 -- the element that is read, with any other in place of what lies past the end
@@ -29,6 +30,21 @@ any_more p xs i x lt is =
     or_false : (b : Bool) → (b || false) ≡ b
     or_false true = refl
     or_false false = refl
+
+-- one more is counted
+pub counted : {A : Type 0} (p : A → Bool) (xs : List A) (x : A)
+    → count_by p (xs ++ x ∷ []) ≡ count_by p xs + cond (p x) 1 0
+counted {A} p xs x =
+    let f : A → ℕ = λ y. cond (p y) 1 0 in
+    let one = sum_by-cons f x [] in
+    let all = sum_by-append f xs (x ∷ []) in
+    omega (arith, one, all)
+
+-- one element more of a front is counted
+pub count_more : {A : Type 0} (p : A → Bool) (xs : List A) (i : ℕ) (x : A) → i < length xs → x ≡ get_or xs i x
+    → count_by p (take (i + 1) xs) ≡ count_by p (take i xs) + cond (p x) 1 0
+count_more p xs i x lt is =
+    ap (count_by p) (take_more xs i x lt ∙ ap (λ y. take i xs ++ y ∷ []) (sym is)) ∙ counted p (take i xs) x
 
 -- one test of two is parted
 pub parted : (t e h : Bool) → ((t && h) || (e && h)) ≡ ((t || e) && h)

@@ -18,7 +18,7 @@ use Rattle.ll_learn.specs.declared.site_chains.SiteChains.{SiteChains}
 use Rattle.ll_learn.specs.Draft.{IsInScope, IsScope, may_have}
 use Rattle.ll_learn.specs.Learned.{NamesNone, may_hold}
 use Rattle.ll_learn.specs.Least.{AreNeeded}
-use Rattle.ll_learn.specs.Lesson.{AreNamed, AreOfSites, IsOfDraft, IsOfProfile, IsOfSites, gives}
+use Rattle.ll_learn.specs.Lesson.{AreNamed, AreOfSites, AreOnce, IsOfDraft, IsOfProfile, IsOfSites, gives}
 use Rattle.ll_learn.specs.Mended.{AreSiteChains, KnowEach}
 use Rattle.ll_learn.specs.Needs.{Meets}
 use Rattle.ll_learn.specs.Sites.{AreAll, AreSites, IsReached}
@@ -50,6 +50,7 @@ pub record MeetsNeeds (sites : Sites) (chains : SiteChains) (scope : Scope) (nee
   pub held : (inode right : ℕ) → right < 15 → list_any (gives inode right) profile.rules.items ≡ true
       → may_have scope right inode ≡ true
   pub named : (s : State) (all : ℕ) → AreSites s all sites → AreNamed s profile.rules.items
+  pub once : (s : State) (all : ℕ) → AreSites s all sites → AreOnce profile.rules.items
   pub within : (layer : Layer) → IsOfProfile profile layer → IsInScope scope layer
   pub meets : (layer : Layer) → IsOfProfile profile layer → Meets (grants_on layer) needs
   pub needed : (layer : Layer) → IsOfProfile profile layer → AreNeeded (λ less. Meets (grants_on less) needs) layer

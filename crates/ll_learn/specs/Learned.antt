@@ -22,7 +22,7 @@ use Rattle.ll_learn.specs.Draft.{IsInScope}
 use Rattle.ll_learn.specs.Faults.{IsFirstDenied, IsFirstFull}
 use Rattle.ll_learn.specs.Gathered.{AreNeedsOfAll}
 use Rattle.ll_learn.specs.Least.{AreNeeded}
-use Rattle.ll_learn.specs.Lesson.{AreNamed, AreRulesOf, IsCalledLeast, IsOfProfile, gives}
+use Rattle.ll_learn.specs.Lesson.{AreNamed, AreOnce, AreRulesOf, IsCalledLeast, IsOfProfile, gives}
 use Rattle.ll_learn.specs.PassedCalls.{IsLearnable}
 use Rattle.ll_learn.specs.Sites.{IsLayerOf}
 
@@ -90,6 +90,7 @@ pub record IsLearnedAt (s : State) (parts : List Part) (aim : Aim) (profile : Le
   pub held : (inode right : ℕ) → right < 15 → list_any (gives inode right) profile.rules.items ≡ true
       → may_hold aim right ≡ true
   pub named : AreNamed s profile.rules.items
+  pub once : AreOnce profile.rules.items
   pub passes : (layer : Layer) → IsOfProfile profile layer → PassesEach parts layer
   pub needed : (layer : Layer) → IsOfProfile profile layer → AreNeeded (PassesEach parts) layer
   pub least : profile.is_least ≡ true → (least : Layer) → IsOfProfile profile least

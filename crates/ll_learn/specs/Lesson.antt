@@ -1,6 +1,6 @@
 -- The rules of learned profiles, and which layers they spell. own
-use Rattle.std.specs.Prelude.{◌≡◌, ◌⊎◌, ◌<◌, ◌==◌, ◌&&◌, ◌↔◌, ℕ, Bool, true, List, [], None, Some, All, IsTrue}
-use Rattle.std.specs.List.{list_any}
+use Rattle.std.specs.Prelude.{◌≡◌, ◌⊎◌, ◌<◌, ◌≤◌, ◌==◌, ◌&&◌, ◌↔◌, ℕ, Bool, true, List, [], None, Some, All, IsTrue}
+use Rattle.std.specs.List.{count_by, list_any}
 use Rattle.ll_rights.specs.declared.access.Access.{Access}
 use Rattle.ll_rights.specs.Access.{holds}
 use Rattle.ll_rules.specs.Layer.{Layer, has_rule}
@@ -32,9 +32,17 @@ abbrev pub AreRulesOf : Draft → List LearnedRule → Type 0
 AreRulesOf draft rules =
     (inode right : ℕ) → right < 15 → list_any (gives inode right) rules ≡ has draft right inode
 
--- each rule is on the node that its path leads to
+-- each rule has a right, and is on the node that its path leads to
 abbrev pub AreNamed : State → List LearnedRule → Type 0
-AreNamed s rules = All (λ (rule : LearnedRule). named s rule.path ≡ Some rule.inode) rules
+AreNamed s rules =
+    All (λ (rule : LearnedRule). (1 ≤ rule.rights.0) × (named s rule.path ≡ Some rule.inode)) rules
+
+-- no two rules are on one node
+abbrev pub is_on : ℕ → LearnedRule → Bool
+is_on inode rule = rule.inode == inode
+
+abbrev pub AreOnce : List LearnedRule → Type 0
+AreOnce rules = (inode : ℕ) → count_by (is_on inode) rules ≤ 1
 
 -- the profile spells this layer
 pub record IsOfProfile (profile : LearnedProfile) (layer : Layer) : Type 0 where

@@ -1,6 +1,7 @@
 -- Where nodes are in a tree, which rights rules on them may have, and which layers a policy can spell there. own
-use Rattle.std.specs.Prelude.{◌≡◌, ◌<◌, ◌==◌, ◌∷◌, [], ◌++◌, ℕ, List, Some, true, All, IsTrue, bit_and, slice_get}
-use Rattle.std.specs.Prelude.{if◌then◌else◌}
+use Rattle.std.specs.Prelude.{◌≡◌, ◌<◌, ◌≤◌, ◌==◌, ◌∷◌, [], ◌++◌, ℕ, Bool, List, Some, true, All, IsTrue, bit_and}
+use Rattle.std.specs.Prelude.{slice_get, if◌then◌else◌}
+use Rattle.std.specs.List.{count_by}
 use Rattle.ll_rights.specs.Access.{holds}
 use Rattle.ll_path.specs.Path.{Path}
 use Rattle.ll_path.specs.Target.{IsTarget}
@@ -55,10 +56,15 @@ HasSite sites inode = (site : Site) × IsAmong sites site × (site.inode ≡ ino
 abbrev pub HasTop : ℕ → Sites → Type 0
 HasTop all sites = (site : Site) × IsAmong sites site × (site.inode ≡ root) × (site.may.0 ≡ all)
 
--- the list has only sites of this tree, and the root
+-- the sites of this inode
+abbrev pub is_of : ℕ → Site → Bool
+is_of inode site = site.inode == inode
+
+-- the list has only sites of this tree, each once, and the root
 pub record AreSites (s : State) (all : ℕ) (sites : Sites) : Type 0 where
   pub each : All (IsSite s all) sites.rows.items
   pub top : HasTop all sites
+  pub once : (inode : ℕ) → count_by (is_of inode) sites.rows.items ≤ 1
 
 -- the list has each node that a spelt path leads to
 abbrev pub AreAll : State → Sites → Type 0

@@ -1,13 +1,14 @@
 //! The rules of a draft, with paths and reasons.
 
-ghost use Rattle.std.specs.Prelude.{◌≡◌, ◌<◌, ◌^◌, ◌⊎◌, ◌==◌, ◌&&◌, ◌||◌, ◌++◌, ◌∷◌, [], ℕ, true, false, IfOk, IfSome};
-ghost use Rattle.std.specs.Prelude.{None, Ok, OnOk, Some};
+ghost use Rattle.std.specs.Prelude.{◌≡◌, ◌<◌, ◌≤◌, ◌^◌, ◌⊎◌, ◌==◌, ◌&&◌, ◌||◌, ◌++◌, ◌∷◌, [], ℕ, true, false, IfOk};
+ghost use Rattle.std.specs.Prelude.{◌+◌, IfSome, None, Ok, OnOk, Some, if◌then◌else◌};
 ghost use Rattle.ll_rights.specs.Access.{holds};
-ghost use Rattle.std.specs.List.{list_any};
+ghost use Rattle.std.specs.List.{count_by, list_any};
 ghost use Rattle.ll_seq.specs.State.{State};
 ghost use Rattle.ll_seq.specs.Tree.{named};
 ghost use Rattle.ll_learn.specs.Draft.{has};
-ghost use Rattle.ll_learn.specs.Lesson.{AreNamed, AreRulesOf, CanHold, IsNeededBy, gives, origin_of};
+ghost use Rattle.ll_learn.specs.Lesson.{AreNamed, AreOnce, AreRulesOf, CanHold, IsNeededBy, gives, is_on};
+ghost use Rattle.ll_learn.specs.Lesson.{origin_of};
 ghost use Rattle.ll_learn.specs.Sites.{AreSites};
 
 use crate::draft::{Draft, Need};
@@ -101,6 +102,7 @@ fn rule_on(
     ensures rights { IfOk result (λ found. IfSome found (λ rule. (right : ℕ) → right < 15
         → holds rule.rights.0 right ≡ has draft.now right site.now.inode)) }
     ensures known { IfOk result (λ found. IfSome found (λ rule. rule.rights.0 < 2 ^ 15)) }
+    ensures some { IfOk result (λ found. IfSome found (λ rule. 1 ≤ rule.rights.0)) }
     ensures reason { IfOk result (λ found. IfSome found (λ rule.
         IfSome rule.needed_by (IsNeededBy draft.now needs.now rule.inode))) }
 {
@@ -145,6 +147,8 @@ fn add_rule(
         || ((site.now.inode == inode) && has draft.now right inode))) }
     ensures named { OnOk result ((s : State) → named s site.now.path ≡ Some site.now.inode
         → AreNamed s rules.old.items → AreNamed s rules.new.items) }
+    ensures once { OnOk result ((inode : ℕ) → count_by (is_on inode) rules.new.items
+        ≤ count_by (is_on inode) rules.old.items + (if site.now.inode == inode then 1 else 0)) }
 {
     match rule_on(alloc, draft, needs, site)? {
         Some(rule) => push_rule(rules, rule),
@@ -163,6 +167,7 @@ pub(crate) fn rules_of(
     ensures rules { IfOk result (λ rules. AreRulesOf draft.now rules.items) }
     ensures named { IfOk result (λ rules. (s : State) (all : ℕ) → AreSites s all sites.now
         → AreNamed s rules.items) }
+    ensures once { IfOk result (λ rules. (s : State) (all : ℕ) → AreSites s all sites.now → AreOnce rules.items) }
 {
     let mut rules = Vec::new(alloc);
     for site in &sites.rows {

@@ -28,6 +28,7 @@ returns-clause-meets c = record {
   held = λ inode right known given. placed_may c.args.scope.now c.args.needs.now right inode
       (c.in-Ok.ensures.placed inode right known (sym (c.in-Ok-rules_of.ensures.rules inode right known) ∙ given));
   named = c.in-Ok-rules_of.ensures.named;
+  once = c.in-Ok-rules_of.ensures.once;
   within = λ layer is. c.in-Ok.ensures.within layer (drafted _ _ layer c.in-Ok-rules_of.ensures.rules refl is);
   meets = λ layer is. c.in-Ok.ensures.meets layer (drafted _ _ layer c.in-Ok-rules_of.ensures.rules refl is);
   needed = λ layer is. c.in-Ok.ensures.needed layer (drafted _ _ layer c.in-Ok-rules_of.ensures.rules refl is);

@@ -15,7 +15,7 @@ returns-then-has-clause-there c inode names =
 pub returns-clause-sites : goal.returns-clause-sites
 returns-clause-sites c = on_ok_weaker c.push_site.result
     (λ e. more_sites c.args.tree.now c.args.all.0 c.args.self.now _ c.in-Some.site c.requires.sites
-    c.in-Some.ensures.site e) c.push_site.ensures
+    c.in-Some.ensures.site (sym c.has.ensures ∙ c.if-has.false) e) c.push_site.ensures
 
 pub returns-clause-more : goal.returns-clause-more
 returns-clause-more c = on_ok_weaker c.push_site.result
