@@ -1,5 +1,5 @@
 -- How lessons end, and what a history teaches.
-use Rattle.std.proofs.Common.{◌≡◌, ◌∙◌, ◌&&◌, ℕ, Bool, true, false, List, [], ◌∷◌, map, Option, Result, Ok, Err}
+use Rattle.std.proofs.Common.{◌≡◌, ◌⊎◌, ◌∙◌, ◌&&◌, ℕ, Bool, true, false, List, [], ◌∷◌, map, Option, Result, Ok, Err}
 use Rattle.std.proofs.Common.{refl, ap, subst, inl, inr}
 use Rattle.std.specs.Prelude.{IfSome}
 use Rattle.std.specs.Borrow.{Bor}
@@ -35,6 +35,12 @@ lacking order text Socket lacks out = absurd lacks
 lacking order text NoMemory lacks out = refl
 
 module _ (texts : Option (List ℕ) → Option (List ℕ)) (order : LearnOrder) where
+  -- a file can't be read
+  pub unread_file : (out : Option (List ℕ)) (f : Failure) → (f ≡ File) ⊎ (f ≡ NoMemory)
+      → list_all (λ name. list_all is_of_line name) order.files ≡ true → EndsByChecks texts order out out (Err f)
+  unread_file out f (inl e) lines = inl (refl, inr (inl (ap Err e, lines)))
+  unread_file out f (inr e) lines = inl (refl, inr (inr (ap Err e)))
+
   pub by_checks : (names : List (Bor (List ℕ))) (policy told : List ℕ) (files all : List NamedText)
       (end : Result Checked Failure) → map (λ n. n.now) names ≡ order.files
       → told ≡ policy → all ≡ files → IsPolicyText texts order.policy policy

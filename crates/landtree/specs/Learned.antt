@@ -31,7 +31,8 @@ abbrev pub EndsByChecks : (texts : Option (List ℕ) → Option (List ℕ)) → 
 EndsByChecks texts order out out' result =
     ((out' ≡ out) × (((result ≡ Err CommandLine)
     × (list_all (λ name. list_all is_of_line name) order.files ≡ false))
-    ⊎ (result ≡ Err File) ⊎ (result ≡ Err NoMemory)))
+    ⊎ ((result ≡ Err File) × (list_all (λ name. list_all is_of_line name) order.files ≡ true))
+    ⊎ (result ≡ Err NoMemory)))
     ⊎ ((policy : List ℕ) × (sources : List Source) × (end : Result Checked Failure)
     × IsPolicyText texts order.policy policy × AllZip (IsSource texts) order.files sources
     × EndsLessons order policy sources out out' end × (result ≡ concluded end)

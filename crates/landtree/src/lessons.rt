@@ -1,6 +1,6 @@
 //! Runs `learn`: a profile of what files of checks need, or of what a saved history did.
 
-ghost use Rattle.std.specs.Prelude.{◌≡◌, ℕ, List, IfSome, map};
+ghost use Rattle.std.specs.Prelude.{◌≡◌, ℕ, Err, List, IfSome, None, map};
 ghost use Rattle.std.specs.List.{list_all};
 ghost use Rattle.ll_program.specs.Options.{learn_in};
 ghost use Rattle.ll_program.specs.Learn.{lessons_by};
@@ -49,6 +49,13 @@ fn ended_by(end: Checked) -> Conclusion
         Checked::Passed => Conclusion::Done,
         Checked::Failed => Conclusion::Checked(Checked::Failed),
         Checked::BadLine => Conclusion::Checked(Checked::BadLine),
+    }
+}
+
+// Adds which word is the reason of this failure, if one is.
+fn hint_at_words(alloc: Global, options: &LearnOptions, failure: &Failure, hints: &mut Hints) {
+    if let Failure::CommandLine = failure {
+        hints.of_misfit(Misfit::of_learn(alloc, options));
     }
 }
 
@@ -109,6 +116,7 @@ fn learn_checks<S: Sources + Wait, W: Write>(
     match ended {
         Ok(end) => Ok(ended_by(end)),
         Err(failure) => {
+            hint_at_words(rt.alloc(), options, &failure, hints);
             hints.of_lessons(options, &failure, policy.as_slice());
             Err(failure)
         }
@@ -137,6 +145,9 @@ fn learn_saved<S: Sources, W: Write>(
         &mut rt.stderr(),
     );
     hints.of_input("history", &file);
+    if let Err(failure) = &ended {
+        hint_at_words(rt.alloc(), options, failure, hints);
+    }
     ended
 }
 
@@ -148,8 +159,9 @@ pub fn learn_options<S: Sources + Wait, W: Write>(
     out: &mut W,
     hints: &mut Hints,
 ) -> Result<Conclusion, Failure>
-    ensures { EndsLearned (S.texts sources.now) (learn_in options.now) (lessons_by (learn_in options.now))
+    ensures ends { EndsLearned (S.texts sources.now) (learn_in options.now) (lessons_by (learn_in options.now))
         (W.contents out.old) (W.contents out.new) result }
+    ensures none { lessons_by (learn_in options.now) ≡ None → result ≡ Err Failure.CommandLine }
 {
     match options.lessons() {
         Some(Lessons::Checks(_)) => learn_checks(rt, sources, options, out, hints),

@@ -2,8 +2,8 @@
 
 use ll_path::{Path, Word};
 use ll_program::{
-    CheckOptions, ExportOptions, ReportForm, RightsOptions, RunOptions, ScheduleOptions,
-    ServeOptions, WhyOptions,
+    CheckOptions, ExportOptions, LearnOptions, ReportForm, RightsOptions, RunOptions,
+    ScheduleOptions, ServeOptions, WhyOptions,
 };
 use std::alloc::Global;
 use std::fmt;
@@ -36,8 +36,12 @@ pub enum Misfit<'a> {
     /// The words of `rights` don't say whose.
     NoScope,
     LayersOfDifference,
-    /// This word of `rights` is no path.
+    /// This word is no path.
     NoPath(&'a str),
+    /// This word is no name of a profile.
+    NoProfileName(&'a str),
+    /// This word spells no rights.
+    NoRights(&'a str),
     /// The words of `why` give neither an entry nor a command.
     NeitherEntryNorCommand,
     /// The words of `learn` give neither checks nor a history.
@@ -88,6 +92,14 @@ impl Display for Misfit<'_> {
             Misfit::NoPath(word) => write!(
                 f,
                 "{word} is no path: / is expected, or / and a name again and again"
+            ),
+            Misfit::NoProfileName(word) => write!(
+                f,
+                "'{word}' is no profile's name: it has 1 to 32 of a to z, 0 to 9 and -"
+            ),
+            Misfit::NoRights(word) => write!(
+                f,
+                "'{word}' spells no rights: their names are expected, in their order, with commas between"
             ),
             Misfit::NoSuchAnswer => f.write_str("--as is followed by json"),
             Misfit::NoScope => f.write_str(
@@ -148,6 +160,16 @@ fn of_paths<'a>(option: &'static str, paths: &[&'a str]) -> Option<Misfit<'a>> {
     for path in paths {
         if !path.starts_with('/') {
             return Some(Misfit::RelativePath(option, path));
+        }
+    }
+    None
+}
+
+// Returns the first of these words that should be a path and is none.
+fn of_words<'a>(alloc: Global, words: &[&'a str]) -> Option<Misfit<'a>> {
+    for word in words {
+        if !is_path(alloc, word) {
+            return Some(Misfit::NoPath(word));
         }
     }
     None
@@ -219,12 +241,18 @@ impl<'a> Misfit<'a> {
 
     /// Returns the first word of `rights` that should be a path and is none.
     pub fn of_paths(alloc: Global, options: &RightsOptions<'a>) -> Option<Misfit<'a>> {
-        for word in &options.paths {
-            if !is_path(alloc, word) {
-                return Some(Misfit::NoPath(word));
+        of_words(alloc, options.paths.as_slice())
+    }
+
+    /// Returns the first word of `learn` that is wrong by itself.
+    pub fn of_learn(alloc: Global, options: &LearnOptions<'a>) -> Option<Misfit<'a>> {
+        match (options.name, options.never) {
+            (Some(word), _) if options.profile_name().is_none() => {
+                Some(Misfit::NoProfileName(word))
             }
+            (_, Some(word)) if options.withheld().is_none() => Some(Misfit::NoRights(word)),
+            _ => of_words(alloc, options.beneath.as_slice()),
         }
-        None
     }
 
     /// Returns the misfit in the words of `why`, which don't fit together or ask for a form that is unknown.

@@ -77,8 +77,9 @@ pub(crate) fn make_lessons<R: Runner>(
 
 /// Returns the failure for a fault of such a run, which reads and writes no file.
 pub(crate) fn failure_of(fault: RunFault) -> Failure
-    ensures { ((refusal : Refusal) × (result ≡ Failure.Opening refusal) × (fault ≡ RunFault.Opening refusal))
+    ensures cases { ((refusal : Refusal) × (result ≡ Failure.Opening refusal) × (fault ≡ RunFault.Opening refusal))
         ⊎ (result ≡ Failure.NoMemory) }
+    ensures opening { (refusal : Refusal) → fault ≡ RunFault.Opening refusal → result ≡ Failure.Opening refusal }
 {
     match fault {
         RunFault::Opening(refusal) => Failure::Opening(refusal),

@@ -37,6 +37,7 @@ fn with_profile(mut setup: Setup, profile: Vec<Call>) -> Setup
 pub(crate) fn in_memory(failure: Failure) -> Failure
     ensures file { result ≡ Failure.File → ⊥ }
     ensures same { (result ≡ failure) ⊎ (result ≡ Failure.NoMemory) }
+    ensures other { (failure ≡ Failure.File → ⊥) → result ≡ failure }
 {
     match failure {
         Failure::File => Failure::NoMemory,

@@ -117,8 +117,9 @@ pub fn tell_learned<W: Write, E: Write>(
     out: &mut W,
     err: &mut E,
 ) -> Result<Conclusion, Failure>
-    ensures { (text : List ℕ) → IsLearnedOf (learn_in options.now) text learned.now
+    ensures told { (text : List ℕ) → IsLearnedOf (learn_in options.now) text learned.now
         → IsLearning (learn_in options.now) text (W.contents out.old) (W.contents out.new) result }
+    ensures file { result ≡ Err Failure.File → ⊥ }
 {
     match learned {
         Learned::Profile(text) => match write_text(text.as_str(), out) {

@@ -11,4 +11,4 @@ returns-in_err-learned g c =
 
 pub returns : goal.returns
 returns g c =
-    let is = c.in_ok-learned.ensures.learned in (is.0, is.1, c.tell_learned.ensures is.0 is.2)
+    let is = c.in_ok-learned.ensures.learned in (is.0, is.1, c.tell_learned.ensures.told is.0 is.2)

@@ -10,7 +10,7 @@ pub returns-in-Err-clause-failure : goal.returns-in-Err-clause-failure
 returns-in-Err-clause-failure g c =
     not_made (learn_in c.args.trees.now.options.now) c.args.trees.now.policy.now c.new.result.items
     (length c.as_slice-lessons.result.now) c.in_ok-setup.setup c.in-Err.fault c.failure_of.result
-    c.in_ok-setup.ensures.setup c.in-Err.ensures.fault c.failure_of.ensures
+    c.in_ok-setup.ensures.setup c.in-Err.ensures.fault c.failure_of.ensures.cases
 
 pub returns-then-are_answered-clause-taught : goal.returns-then-are_answered-clause-taught
 returns-then-are_answered-clause-taught g c =
