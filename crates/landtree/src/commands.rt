@@ -108,6 +108,9 @@ fn run_script<S: Sources + Wait, W: Write>(
     );
     hints.of_input("policy", &policy);
     hints.of_input("script", &script);
+    if !script.is_open() {
+        file.remove_record();
+    }
     hints.of_output(&file);
     hints.of_run(options, &ended, &policy, &script);
     match ended {
@@ -396,6 +399,9 @@ fn serve_port<S: Sources + Threads + Wait + Sync, B: Binds, W: Write>(
         &mut file,
     );
     hints.of_input("policy", &policy);
+    if let Err(Failure::Socket) = &ended {
+        file.remove_record();
+    }
     hints.of_output(&file);
     hints.of_serving(options, &ended, log.refusal().as_ref(), &policy);
     ended

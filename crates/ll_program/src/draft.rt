@@ -222,6 +222,11 @@ impl<'a> Draft<'a> {
         }
     }
 
+    /// Returns what the system knows of it now.
+    pub(crate) fn metadata(&self) -> io::Result<Metadata> {
+        self.file.metadata()
+    }
+
     /// Reports whether it grows with each entry.
     pub(crate) fn is_record(&self) -> bool {
         self.is_record

@@ -2,12 +2,38 @@
 
 ghost use Rattle.std.specs.Prelude.{None};
 
-use crate::draft::Draft;
+use crate::draft::{Draft, are_of_one_file};
 use ll_wire::Destination;
 use std::alloc::Global;
-use std::io;
+use std::fs::Metadata;
 use std::io::{Error, Write};
 use std::rt::HostRuntime;
+use std::{fs, io};
+
+/// A record that stays beside its file.
+#[derive(Drop)]
+struct Kept {
+    path: String,
+    file: Metadata,
+}
+
+impl Kept {
+    // Returns where this record was created, if it is beside its file and memory doesn't run out.
+    fn of(alloc: Global, draft: &Draft<'_>) -> Option<Kept> {
+        Some(Kept {
+            path: String::from_str(alloc, draft.path()?).ok()?,
+            file: draft.metadata().ok()?,
+        })
+    }
+
+    // Reports whether it is still there.
+    fn is_there(&self, rt: &HostRuntime) -> bool {
+        match fs::symlink_metadata(rt, self.path.as_str()) {
+            Ok(now) => are_of_one_file(&now, &self.file),
+            Err(_) => false,
+        }
+    }
+}
 
 /// The file with a name. It is created, or replaced if it exists.
 #[derive(Drop)]
@@ -16,7 +42,7 @@ pub struct NewFile<'a> {
     name: &'a str,
     what: &'a str,
     is_telling: bool,
-    record: Option<String>,
+    record: Option<Kept>,
     trouble: Option<Error>,
 }
 
@@ -47,8 +73,18 @@ impl<'a> NewFile<'a> {
     /// Returns the path of the record that stays beside it, if one does.
     pub fn record_path(&self) -> Option<&str> {
         match &self.record {
-            Some(path) => Some(path.as_str()),
+            Some(kept) => Some(kept.path.as_str()),
             None => None,
+        }
+    }
+
+    /// Removes the record, as after a failure before anybody could make a call.
+    pub fn remove_record(&mut self) {
+        if let Some(kept) = &self.record
+            && kept.is_there(self.rt)
+            && fs::remove_file(self.rt, kept.path.as_str()).is_ok()
+        {
+            self.record = None;
         }
     }
 
@@ -63,14 +99,6 @@ impl<'a> NewFile<'a> {
             let name = self.name;
             let _ = eprintln!(self.rt; "no record is kept beside {name}: {error}");
         }
-    }
-}
-
-// Returns the path of this draft, unless memory runs out.
-fn path_of(alloc: Global, made: &Option<Draft<'_>>) -> Option<String> {
-    match made {
-        Some(draft) => String::from_str(alloc, draft.path()?).ok(),
-        None => None,
     }
 }
 
@@ -93,7 +121,10 @@ impl<'a> Destination for NewFile<'a> {
     fn record(&mut self, head: &[u8]) -> Option<Draft<'a>> {
         match Draft::record(self.rt, self.name, head) {
             Ok(made) => {
-                self.record = path_of(self.rt.alloc(), &made);
+                self.record = match &made {
+                    Some(draft) => Kept::of(self.rt.alloc(), draft),
+                    None => None,
+                };
                 made
             }
             Err(error) => {
