@@ -13,14 +13,14 @@ use Rattle.ll_embed.specs.declared.fault.Fault.TheVariants as faults
 pub run_fails : (o : Order) (setup : Setup) (fault : RunFault) → IsSetup o setup → runs.MayEnd setup fault
     → (fault ≡ Session TooLong → most_reads ≤ length o.script) → MayFail o (fault_in fault)
 run_fails o setup (Opening refusal) is may long = (setup, refusal, is, may)
-run_fails o setup (Session Read) is may long = tt
-run_fails o setup (Session Write) is may long = tt
-run_fails o setup (Session NoMemory) is may long = tt
+run_fails o setup (Session Read) is may long = is.0
+run_fails o setup (Session Write) is may long = is.0
+run_fails o setup (Session NoMemory) is may long = is.0
 run_fails o setup (Session TooLong) is may long = long refl
 
 pub history_fails : (o : Order) (setup : Setup) (fault : Fault) → IsSetup o setup
     → (fault ≡ faults.NoMemory) ⊎ ((of : RunFault) × runs.MayEnd setup of
     × (of ≡ Session TooLong → most_reads ≤ length o.script) × (fault ≡ fault_in of))
     → MayFail o fault
-history_fails o setup fault is (inl none) = subst (MayFail o) (sym none) tt
+history_fails o setup fault is (inl none) = subst (MayFail o) (sym none) is.0
 history_fails o setup fault is (inr h) = subst (MayFail o) (sym h.3) (run_fails o setup h.0 is h.1 h.2)

@@ -1,5 +1,5 @@
 -- What the exported functions answer. own
-use Rattle.std.specs.Prelude.{⊤, ◌≡◌, ◌⊎◌, ◌≤◌, ℕ, Bool, false, not, ◌==◌, List, [], ◌∷◌, Option, Some, None}
+use Rattle.std.specs.Prelude.{◌≡◌, ◌⊎◌, ◌≤◌, ℕ, Bool, false, not, ◌==◌, List, [], ◌∷◌, Option, Some, None}
 use Rattle.std.specs.Prelude.{◌+◌, bytes_eq, length, min, option_map, slice_get, string_bytes, true, if◌then◌else◌}
 use Rattle.std.specs.declared.alloc.Global.{Global}
 use Rattle.std.specs.declared.string.String.{String}
@@ -157,7 +157,8 @@ fault_at failures.Output = NoMemory
 fault_at failures.Socket = NoMemory
 fault_at failures.NoMemory = NoMemory
 
--- why no tree is set up so, or nothing is run in it. A script is too long if it has a billion bytes
+-- Why no tree is set up so, or nothing is run in it. A script is too long if it has a billion bytes. Numbers and texts
+-- that don't go together are told, whatever memory there is
 abbrev pub MayFail : Order → Fault → Type 0
 MayFail o Misfit = Fits o → ⊥
 MayFail o (Policy fault) = (o.policy ≡ [] → ⊥) × IsFaultOf o.policy fault
@@ -167,7 +168,7 @@ MayFail o Opening =
 MayFail o NoEntry = ⊥
 MayFail o OwnPolicy = ⊥
 MayFail o TooLong = most_reads ≤ length o.script
-MayFail o NoMemory = ⊤
+MayFail o NoMemory = Fits o
 
 -- ---- answers: a status and a text. A failure's text is for people
 

@@ -89,14 +89,14 @@ abbrev pub check_fault : Failure → Fault
 check_fault File = OwnPolicy
 check_fault failure = fault_at failure
 
--- why nothing is checked to the end: the words are wrong; the program's check, without policies of sections, may fail
--- so; or memory ran out
+-- why nothing is checked to the end: the words are wrong; or they are right, and the program's check, without policies
+-- of sections, may fail so, or memory ran out
 abbrev pub MayFailCheck : CheckAsked → Fault → Type 0
 MayFailCheck a fault =
     ((fault ≡ Misfit) × (CheckFits a → ⊥))
     ⊎ (CheckFits a × (failure : Failure) × MayFail (order_of a) a.policy [] (source_in a ∷ []) failure
     × (fault ≡ check_fault failure))
-    ⊎ (fault ≡ NoMemory)
+    ⊎ (CheckFits a × (fault ≡ NoMemory))
 
 -- the program's report and its status; if a line is wrong, words for people
 abbrev pub IsCheckTold : CheckAsked → (status : ℕ) → (text : List ℕ) → Type 0

@@ -154,11 +154,8 @@ impl<'a> CheckGiven<'a> {
         let level = level_of(self.level)?;
         let profile = text_of(self.profile)?;
         let name = text_of(self.name)?;
-        let Ok(files) = Vec::from_slice(alloc, &[name]) else {
-            return Err(Fault::NoMemory);
-        };
-        let options = CheckOptions {
-            files,
+        let mut options = CheckOptions {
+            files: Vec::new(alloc),
             nodes: self.nodes,
             level,
             policy: policy_name(self.policy),
@@ -168,10 +165,12 @@ impl<'a> CheckGiven<'a> {
             form: Some(form_of(self.form)),
             schedule: false,
         };
-        if options.fit() {
-            Ok(options)
-        } else {
-            Err(Fault::Misfit)
+        if !options.fit() {
+            return Err(Fault::Misfit);
+        }
+        match options.files.push(name) {
+            Ok(()) => Ok(options),
+            Err(_) => Err(Fault::NoMemory),
         }
     }
 

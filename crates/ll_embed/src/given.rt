@@ -132,6 +132,7 @@ impl Given<'_> {
     // Returns the setup by the policy.
     fn by_policy(&self, alloc: Global) -> Result<Setup, Fault>
         requires given { self.now.policy.now ≡ [] → ⊥ }
+        requires level { self.now.level ≡ 0 }
         requires some { 1 ≤ self.now.nodes }
         requires most { self.now.nodes ≤ TREE_NODES }
         requires most_entries { self.now.history ≤ HISTORY_ENTRIES }
