@@ -144,7 +144,8 @@ def learn(folder: Path, converted: Converted, options: LearnOptions, commands: C
     try:
         return commands.learn([checks], nodes, options)
     except ProgramFault as fault:
-        raise Fault(f"{checks}: no profile is learned: {fault.line}") from None
+        again = f"`landtree learn {checks} --policy {nodes}` learns from this run again"
+        raise Fault(f"{checks}: no profile is learned: {fault.line}; {again}") from None
 
 
 def run_confined(

@@ -259,6 +259,8 @@ class Touring(Case):
         text = '#!/bin/sh\n[ "$1" = --version ] && exit\necho "run.check:1: why" >&2\nexit 3\n'
         self.put("bad", text).chmod(0o755)
         ended = self.run_module("try", "--program", self.room / "bad", "--", "touch", "ran", cwd=self.home)
-        said = f"landtree: {self.home}/landtree.try/run.check: no profile is learned: run.check:1: why\n"
+        checks, nodes = (f"{self.home}/landtree.try/{it}" for it in ("run.check", "nodes.toml"))
+        again = f"`landtree learn {checks} --policy {nodes}` learns from this run again"
+        said = f"landtree: {checks}: no profile is learned: run.check:1: why; {again}\n"
         self.assertEqual((ended.returncode, ended.stderr), (125, said))
         self.assertFalse((self.home / "landtree.try/policy.toml").exists())
