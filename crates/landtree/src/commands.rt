@@ -108,7 +108,7 @@ fn run_script<S: Sources + Wait, W: Write>(
     );
     hints.of_input("policy", &policy);
     hints.of_input("script", &script);
-    if !script.is_open() {
+    if script.trouble().is_some() && !script.is_open() {
         file.remove_record();
     }
     hints.of_output(&file);
