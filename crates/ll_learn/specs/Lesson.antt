@@ -37,10 +37,11 @@ abbrev pub AreNamed : State → List LearnedRule → Type 0
 AreNamed s rules =
     All (λ (rule : LearnedRule). (1 ≤ rule.rights.0) × (named s rule.path ≡ Some rule.inode)) rules
 
--- no two rules are on one node
+-- the rule is on this node
 abbrev pub is_on : ℕ → LearnedRule → Bool
 is_on inode rule = rule.inode == inode
 
+-- no two rules are on one node
 abbrev pub AreOnce : List LearnedRule → Type 0
 AreOnce rules = (inode : ℕ) → count_by (is_on inode) rules ≤ 1
 

@@ -56,7 +56,7 @@ HasSite sites inode = (site : Site) × IsAmong sites site × (site.inode ≡ ino
 abbrev pub HasTop : ℕ → Sites → Type 0
 HasTop all sites = (site : Site) × IsAmong sites site × (site.inode ≡ root) × (site.may.0 ≡ all)
 
--- the sites of this inode
+-- the site is of this inode
 abbrev pub is_of : ℕ → Site → Bool
 is_of inode site = site.inode == inode
 
