@@ -24,7 +24,7 @@ lines_told [] = refl
 lines_told (name ∷ names) = ap (λ rest. list_all is_of_line name.now && rest) (lines_told names)
 
 -- nothing is known of the history
-pub lacking : (order : LearnOrder) (text : List ℕ) (failure : Failure) → LacksLesson order text failure
+pub lacking : (order : LearnOrder) (text : List ℕ) (failure : Failure) → LacksLesson order failure
     → (out : Option (List ℕ)) → IsLearning order text out out (Err failure)
 lacking order text CommandLine lacks out = (inl lacks, refl)
 lacking order text (Policy fault) lacks out = absurd lacks

@@ -17,6 +17,7 @@ use Rattle.ll_program.specs.Options.{LearnOrder}
 use Rattle.ll_program.specs.Policy.{header_of}
 use Rattle.ll_program.specs.declared.checked.Checked.{Checked}
 use Rattle.ll_program.specs.declared.checked.Checked.TheVariants.{BadLine, Failed, Passed}
+use Rattle.ll_program.specs.Learn.{HasWrongWord}
 use Rattle.ll_program.specs.declared.failure.Failure.{Failure}
 use Rattle.ll_program.specs.declared.failure.Failure.TheVariants.{CommandLine, NoMemory, Output}
 use Rattle.ll_check.specs.declared.checks.NamedText.{NamedText}
@@ -25,7 +26,7 @@ use Rattle.ll_check.specs.declared.check_text.CheckFault.{CheckFault}
 use Rattle.ll_check.specs.declared.check_text.CheckFault.TheVariants as faults
 use Rattle.ll_check.specs.Checks.{Tests, has_own, has_test, tests_of}
 use Rattle.ll_check.specs.Files.{AreTestsIn, HasBadLine, Source, source_of}
-use Rattle.ll_check.specs.Lessons.{AreLessonsIn, Course, EndsLessons, FailsToLearn, HasWrongWord, IsHindered}
+use Rattle.ll_check.specs.Lessons.{AreLessonsIn, Course, EndsLessons, FailsToLearn, IsHindered}
 use Rattle.ll_check.specs.Lessons.{IsProfile, IsTaughtBy, TeachNothing, is_of_lessons, lessons_of}
 
 -- ---- what is learned

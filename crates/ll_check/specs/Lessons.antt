@@ -31,9 +31,8 @@ use Rattle.ll_session.specs.declared.calls_run.CallReplies.TheVariants.{Answered
 use Rattle.ll_session.specs.declared.fault.RunFault.TheVariants as run
 use Rattle.ll_session.specs.declared.refusal.Refusal.{Refusal}
 use Rattle.ll_session.specs.declared.setup.Setup.{Setup}
-use Rattle.ll_program.specs.Learn.{IsWithheld, most_rules, profile_name}
+use Rattle.ll_program.specs.Learn.{HasWrongWord, IsWithheld, most_rules, profile_name}
 use Rattle.ll_program.specs.Options.{LearnOrder, lesson_tree}
-use Rattle.ll_program.specs.Paths.{HasBadWord}
 use Rattle.ll_program.specs.Policy.{IsSetup, Lacks, header_of}
 use Rattle.ll_program.specs.declared.checked.Checked.{Checked}
 use Rattle.ll_program.specs.declared.checked.Checked.TheVariants.{BadLine, Failed, Passed}
@@ -232,10 +231,6 @@ IsHindered order policy files =
     × (length profile.rules.items ≤ most_rules order) × AreTried order policy profile files false)
 
 -- ---- How it ends
-
--- the words give no valid name of a profile, no rights, or no path
-abbrev pub HasWrongWord : LearnOrder → Type 0
-HasWrongWord order = (profile_name order ≡ None) ⊎ IsWithheld order.never None ⊎ HasBadWord order.beneath
 
 -- a path of the words leads to no node, or there are more rules than the words allow
 abbrev pub IsOutside : LearnOrder → (policy : List ℕ) → (lessons : List Tests) → Type 0

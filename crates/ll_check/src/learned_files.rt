@@ -9,11 +9,11 @@ ghost use Rattle.ll_learn.specs.declared.fault.Unlearned as fault;
 ghost use Rattle.ll_learn.specs.declared.fault.Unlearned.TheVariants as faults;
 ghost use Rattle.ll_rights.specs.declared.limits.TheConstants.{TREE_NODES};
 ghost use Rattle.ll_path.specs.Path.{path_of_text};
-ghost use Rattle.ll_program.specs.Learn.{IsWithheld, most_rules, profile_name};
+ghost use Rattle.ll_program.specs.Learn.{HasWrongWord, IsWithheld, most_rules, profile_name};
 ghost use Rattle.ll_program.specs.Options.{learn_in};
 ghost use Rattle.ll_check.specs.Checks.{has_own, has_test, tests_of};
 ghost use Rattle.ll_check.specs.Files.{source_of};
-ghost use Rattle.ll_check.specs.Lessons.{AreTaught, AreTried, EndsLessons, FailsToLearn, FailsToMake, HasWrongWord};
+ghost use Rattle.ll_check.specs.Lessons.{AreTaught, AreTried, EndsLessons, FailsToLearn, FailsToMake};
 ghost use Rattle.ll_check.specs.Lessons.{IsBlank, IsHindered, IsProfile, IsTaughtBy, TeachNothing, is_of_lessons};
 ghost use Rattle.ll_check.specs.Lessons.{learner, lessons_of, picked};
 
@@ -139,7 +139,10 @@ fn learned_from<E: Write>(
         return Ok(None);
     }
     match fault {
-        Unlearned::NoNode(_) => Err(Failure::CommandLine),
+        Unlearned::NoNode(_) => {
+            taught.tell(alloc, fault, aim, err);
+            Err(Failure::CommandLine)
+        }
         _ => Err(Failure::NoMemory),
     }
 }

@@ -2,7 +2,7 @@
 
 use crate::check_text::Test;
 use crate::lessons::{FileLessons, lesson_line};
-use ll_learn::{Aim, Origin, Unlearned, cut_of};
+use ll_learn::{Aim, Origin, Unlearned, cut_of, stray_line};
 use ll_rights::Right;
 use ll_seq::Entry;
 use std::alloc::{AllocError, Global};
@@ -37,7 +37,7 @@ fn words_of(fault: Unlearned, aim: &Aim) -> (usize, Option<usize>, &'static str)
             Some(at.entry),
             "no layer of level 1 lets this pass",
         ),
-        Unlearned::NoNode(_) => (0, None, "a path of --beneath names nothing"),
+        Unlearned::NoNode(_) => (0, None, "a path of --beneath leads to no node"),
         Unlearned::NoMemory => (0, None, "no memory"),
     }
 }
@@ -54,6 +54,11 @@ impl<'a> Taught<'a, '_> {
 
     // Returns the line on why nothing is learned.
     fn line(&self, alloc: Global, fault: Unlearned, aim: &Aim) -> Result<String, AllocError> {
+        if let Unlearned::NoNode(index) = fault
+            && let Some(path) = aim.beneath.get(index)
+        {
+            return stray_line(alloc, path.as_str());
+        }
         let (history, entry, words) = words_of(fault, aim);
         if let Some(entry) = entry
             && let Some((file, lesson)) = self.lesson(aim.client, history, entry)

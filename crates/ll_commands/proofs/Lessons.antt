@@ -7,7 +7,8 @@ use Rattle.std.specs.declared.alloc.Global.{Global}
 use Rattle.std.specs.declared.string.String.{String}
 use Rattle.ll_wire.specs.WriterGains.{AppendsFront}
 use Rattle.ll_learn.specs.declared.saved_lesson.Learned.{Learned}
-use Rattle.ll_learn.specs.declared.saved_lesson.Learned.TheVariants.{Many, Profile}
+use Rattle.ll_learn.specs.declared.fault.Unlearned.TheVariants.{NoNode}
+use Rattle.ll_learn.specs.declared.saved_lesson.Learned.TheVariants.{Many, Nothing, Profile}
 use Rattle.ll_program.specs.Options.{LearnOrder}
 use Rattle.ll_program.specs.declared.conclusion.Conclusion.{Conclusion}
 use Rattle.ll_program.specs.declared.failure.Failure.{Failure}
@@ -20,10 +21,9 @@ pub nameless : (told : Option (Bor (List ℕ))) (name : Option (List ℕ))
 nameless told name is none = sym is ∙ ap (option_map (λ (t : Bor (List ℕ)). t.now)) none
 
 -- the file can't be read
-pub by_file : (order : LearnOrder) (text : List ℕ) (f : Failure) → (f ≡ File) ⊎ (f ≡ NoMemory)
-    → LacksLesson order text f
-by_file order text f (inl e) = subst (LacksLesson order text) (sym e) tt
-by_file order text f (inr e) = subst (LacksLesson order text) (sym e) tt
+pub by_file : (order : LearnOrder) (f : Failure) → (f ≡ File) ⊎ (f ≡ NoMemory) → LacksLesson order f
+by_file order f (inl e) = subst (LacksLesson order) (sym e) tt
+by_file order f (inr e) = subst (LacksLesson order) (sym e) tt
 
 module _ (order : LearnOrder) (text : List ℕ) (told : Learned) where
   -- the profile isn't written whole
@@ -35,9 +35,19 @@ module _ (order : LearnOrder) (text : List ℕ) (told : Learned) where
       subst (λ f. IsLearning order text out out' (Err f)) (sym front.0)
       (bytes, subst (IsLearnedText order text) (sym same) whole, front.1)
 
+  -- a path leads to no node
+  pub told_stray : (index : ℕ) (out : Option (List ℕ)) (r : Result Conclusion Failure)
+      → told ≡ Nothing (NoNode index) → (r ≡ Err CommandLine) ⊎ (r ≡ Err NoMemory) → IsLearnedOf order text told
+      → IsLearning order text out out r
+  told_stray index out r is (inl e) learned =
+      subst (IsLearning order text out out) (sym e)
+      (inr (inl (index, subst (IsLearnedOf order text) is learned)), refl)
+  told_stray index out r is (inr e) learned = subst (IsLearning order text out out) (sym e) refl
+
   -- it would have too many rules
   pub told_many : (rules : ℕ) (out : Option (List ℕ)) (r : Result Conclusion Failure) → told ≡ Many rules
       → (r ≡ Err CommandLine) ⊎ (r ≡ Err NoMemory) → IsLearnedOf order text told → IsLearning order text out out r
   told_many rules out r is (inl e) learned =
-      subst (IsLearning order text out out) (sym e) (inr (rules, subst (IsLearnedOf order text) is learned), refl)
+      subst (IsLearning order text out out) (sym e)
+      (inr (inr (rules, subst (IsLearnedOf order text) is learned)), refl)
   told_many rules out r is (inr e) learned = subst (IsLearning order text out out) (sym e) refl

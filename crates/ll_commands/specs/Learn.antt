@@ -1,5 +1,5 @@
 -- What `learn` learns from a saved history. own
-use Rattle.std.specs.Prelude.{⊤, ◌≡◌, ◌⊎◌, ℕ, List, Option, Some, None, Result, Ok, Err, IfSome, false, map}
+use Rattle.std.specs.Prelude.{⊤, ◌≡◌, ◌⊎◌, ℕ, Bool, List, Option, Some, None, Result, Ok, Err, IfSome, false, map, true}
 use Rattle.ll_path.specs.Path.{path_of_text}
 use Rattle.ll_wire.specs.Pieces.{pieces}
 use Rattle.ll_wire.specs.Transcript.{Writes}
@@ -11,10 +11,9 @@ use Rattle.ll_learn.specs.declared.fault.Unlearned.{Unlearned}
 use Rattle.ll_learn.specs.declared.fault.Unlearned.TheVariants.{NoNode}
 use Rattle.ll_learn.specs.declared.saved_lesson.Learned.{Learned}
 use Rattle.ll_learn.specs.declared.saved_lesson.SavedLesson.{SavedLesson}
-use Rattle.ll_program.specs.Learn.{IsWithheld, most_rules, profile_name}
+use Rattle.ll_program.specs.Learn.{HasWrongWord, IsWithheld, most_rules, profile_name}
 use Rattle.ll_program.specs.Options.{LearnOrder}
 use Rattle.ll_program.specs.Learn.{fits_learn}
-use Rattle.ll_program.specs.Paths.{HasBadWord}
 use Rattle.ll_program.specs.Sources.{named}
 use Rattle.ll_program.specs.declared.conclusion.Conclusion.{Conclusion}
 use Rattle.ll_program.specs.declared.conclusion.Conclusion.TheVariants.{Checked, Differs, Done, Judged, Stopped}
@@ -54,22 +53,25 @@ LearnsMuch order text rules = HasLesson order (λ lesson. TeachesMuch lesson tex
 abbrev pub IsLearnedOf : LearnOrder → List ℕ → Learned → Type 0
 IsLearnedOf order text learned = HasLesson order (λ lesson. IsLearnedBy lesson text learned)
 
--- the words ask for something impossible: an invalid profile name, badly spelled rights, a badly spelled path, or a
--- path that leads to no node
-abbrev pub IsMisaimed : LearnOrder → List ℕ → Type 0
-IsMisaimed order text =
-    (profile_name order ≡ None) ⊎ IsWithheld order.never None ⊎ HasBadWord order.beneath
-    ⊎ ((index : ℕ) × LearnsNothing order text (NoNode index))
+-- why nothing is known of a history: a word, the file, or NoMemory
+abbrev pub LacksLesson : LearnOrder → Failure → Type 0
+LacksLesson order CommandLine = HasWrongWord order
+LacksLesson order (Policy fault) = ⊥
+LacksLesson order (Opening refusal) = ⊥
+LacksLesson order File = ⊤
+LacksLesson order Output = ⊥
+LacksLesson order Socket = ⊥
+LacksLesson order NoMemory = ⊤
 
--- why nothing is known of the history with this text: the words, the file, or NoMemory
-abbrev pub LacksLesson : LearnOrder → List ℕ → Failure → Type 0
-LacksLesson order text CommandLine = IsMisaimed order text
-LacksLesson order text (Policy fault) = ⊥
-LacksLesson order text (Opening refusal) = ⊥
-LacksLesson order text File = ⊤
-LacksLesson order text Output = ⊥
-LacksLesson order text Socket = ⊥
-LacksLesson order text NoMemory = ⊤
+-- the fault is in the history, and not a path of the words
+abbrev pub is_of_history : Unlearned → Bool
+is_of_history (NoNode index) = false
+is_of_history other = true
+
+-- the words don't fit the history: a path of theirs leads to no node, or they allow fewer rules
+abbrev pub IsUnfit : LearnOrder → List ℕ → Type 0
+IsUnfit order text =
+    ((index : ℕ) × LearnsNothing order text (NoNode index)) ⊎ ((rules : ℕ) × LearnsMuch order text rules)
 
 -- ---- How it ends
 
@@ -83,11 +85,11 @@ IsLearning order text out out' (Ok (Judged (Illegal entry))) = ⊥
 IsLearning order text out out' (Ok (Judged (BadLine line))) = IsFirstBad (pieces text) line × (out' ≡ out)
 IsLearning order text out out' (Ok (Checked checked.Passed)) = ⊥
 IsLearning order text out out' (Ok (Checked checked.Failed)) =
-    (fault : Unlearned) × LearnsNothing order text fault × (out' ≡ out)
+    (fault : Unlearned) × (is_of_history fault ≡ true) × LearnsNothing order text fault × (out' ≡ out)
 IsLearning order text out out' (Ok (Checked checked.BadLine)) = ⊥
 IsLearning order text out out' (Ok Differs) = ⊥
 IsLearning order text out out' (Err CommandLine) =
-    (IsMisaimed order text ⊎ ((rules : ℕ) × LearnsMuch order text rules)) × (out' ≡ out)
+    (HasWrongWord order ⊎ IsUnfit order text) × (out' ≡ out)
 IsLearning order text out out' (Err (Policy fault)) = ⊥
 IsLearning order text out out' (Err (Opening refusal)) = ⊥
 IsLearning order text out out' (Err File) = out' ≡ out

@@ -6,7 +6,7 @@ ghost use Rattle.ll_program.specs.Options.{learn_in};
 ghost use Rattle.ll_commands.specs.Learn.{IsLearnedOf, IsLearning, LacksLesson};
 
 use ll_audit::Verdict;
-use ll_learn::{Learned, SavedLesson, Unlearned};
+use ll_learn::{Learned, SavedLesson, Unlearned, stray_line};
 use ll_program::{Checked, Conclusion, Failure, LearnOptions, paths_of, read_text, write_text};
 use ll_rights::limits::RULESET_INODES;
 use std::alloc::{AllocError, Global};
@@ -21,7 +21,7 @@ fn learned_by(
 ) -> Result<Learned, Failure>
     requires name { profile_name (learn_in options.now) ≡ Some name.now }
     ensures learned { IfOk result (IsLearnedOf (learn_in options.now) history.now) }
-    ensures failure { IfErr result (LacksLesson (learn_in options.now) history.now) }
+    ensures failure { IfErr result (LacksLesson (learn_in options.now)) }
 {
     let Some(never) = options.withheld() else {
         return Err(Failure::CommandLine);
@@ -34,13 +34,10 @@ fn learned_by(
         most: options.most_rules(),
         name,
     };
-    let Ok(learned) = lesson.learned(alloc, history) else {
-        return Err(Failure::NoMemory);
-    };
-    if let Learned::Nothing(Unlearned::NoNode(_)) = &learned {
-        return Err(Failure::CommandLine);
+    match lesson.learned(alloc, history) {
+        Ok(learned) => Ok(learned),
+        Err(_) => Err(Failure::NoMemory),
     }
-    Ok(learned)
 }
 
 /// Learns from the saved history in this file. Errors: a word is wrong, the file can't be read, or memory ran out.
@@ -51,8 +48,7 @@ pub fn learn_history<R: Read>(
 ) -> Result<Learned, Failure>
     ensures learned { IfOk result (λ learned. (text : List ℕ) × IfSome (R.remaining file.old) (λ told. text ≡ told)
         × IsLearnedOf (learn_in options.now) text learned) }
-    ensures failure { IfErr result (λ failure. (text : List ℕ) × IfSome (R.remaining file.old) (λ told. text ≡ told)
-        × LacksLesson (learn_in options.now) text failure) }
+    ensures failure { IfErr result (LacksLesson (learn_in options.now)) }
 {
     let Some(name) = options.profile_name() else {
         return Err(Failure::CommandLine);
@@ -129,6 +125,10 @@ pub fn tell_learned<W: Write, E: Write>(
         Learned::BadLine(line) => {
             let end = Ok(Conclusion::Judged(Verdict::BadLine(*line)));
             refused(err, line_on(alloc, name, Some(*line), "bad line"), end)
+        }
+        Learned::Nothing(Unlearned::NoNode(index)) => {
+            let path = options.beneath.get(*index).copied().unwrap_or("");
+            refused(err, stray_line(alloc, path), Err(Failure::CommandLine))
         }
         Learned::Nothing(fault) => {
             let end = Ok(Conclusion::Checked(Checked::Failed));

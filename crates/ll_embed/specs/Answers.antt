@@ -12,8 +12,6 @@ use Rattle.ll_seq.specs.declared.reply.Entry.{Entry}
 use Rattle.ll_wire.specs.Devices.{line_feeds}
 use Rattle.ll_wire.specs.Pieces.{pieces}
 use Rattle.ll_wire.specs.Transcript.{most_reads}
-use Rattle.ll_wire.specs.declared.header.Header.{Header}
-use Rattle.ll_wire.specs.declared.header.Version.TheVariants.{Three}
 use Rattle.ll_audit.specs.Saved.{Judges, saved_text, verdict_line}
 use Rattle.ll_audit.specs.declared.verdict.Verdict.{Verdict}
 use Rattle.ll_audit.specs.declared.verdict.Verdict.TheVariants as verdict
@@ -24,6 +22,7 @@ use Rattle.ll_policy.specs.Faults.{document_faults}
 use Rattle.ll_policy.specs.Plan.{Plan, IsPlanOf}
 use Rattle.ll_policy.specs.declared.fault.PolicyFault.{PolicyFault}
 use Rattle.ll_policy.specs.declared.fault.PolicyFault.TheVariants.{NotToml}
+use Rattle.ll_program.specs.Policy.{header_of}
 use Rattle.ll_program.specs.declared.failure.Failure.{Failure}
 use Rattle.ll_program.specs.declared.failure.Failure.TheVariants as failures
 use Rattle.ll_session.specs.Run.{MayEnd}
@@ -193,9 +192,6 @@ RunAnswers o strict status text =
     IsRunTold o strict status text ⊎ ((fault : Fault) × MayFail o fault × (status ≡ status_of fault))
 
 -- the saved history of a run of the script
-abbrev pub header_of : Setup → Header
-header_of setup = record { version = Three setup.rules.abi; nodes = setup.nodes }
-
 abbrev pub IsHistoryTold : Order → (status : ℕ) → (text : List ℕ) → Type 0
 IsHistoryTold o status text =
     (setup : Setup) × (replies : List ℕ) × (stop : Option Stop) × (entries : List Entry) × IsSetup o setup

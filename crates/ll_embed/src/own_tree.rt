@@ -11,11 +11,11 @@ ghost use Rattle.ll_seq.specs.declared.reply.Reply.{Reply};
 ghost use Rattle.ll_session.specs.PartySession.{Session};
 ghost use Rattle.ll_session.specs.declared.refusal.Opener.{Opener};
 
-use crate::replies::{count_brought, is_refused, placed};
+use crate::replies::{count_brought, is_refused};
 use ll_plain::Plain;
 use ll_rights::Errno;
 use ll_seq::{Call, Entry, History, Reply};
-use ll_session::{ClientCall, Opener, Refusal, Setup, ends_strictly, is_of_layers};
+use ll_session::{ClientCall, Opener, Refusal, Setup, ends_strictly, is_of_layers, placed};
 use ll_wire::{Line, is_spelled, read_command};
 use std::alloc::{AllocError, Global};
 

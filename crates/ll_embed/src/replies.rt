@@ -2,7 +2,6 @@
 
 ghost use Rattle.std.specs.Prelude.{◌≡◌, ◌≤◌, length};
 ghost use Rattle.ll_plain.specs.Refusal.{is_refusal};
-ghost use Rattle.ll_session.specs.Beside.{placed};
 ghost use Rattle.ll_session.specs.PartySession.{brought};
 
 use ll_seq::Reply;
@@ -22,15 +21,5 @@ pub fn count_brought(reply: &Reply) -> u64
     match reply {
         Reply::Spawned(_) => 1,
         _ => 0,
-    }
-}
-
-/// Returns the reply as it is written in a session with this many clients: lines name the newest by its place.
-pub fn placed(clients: u64, reply: Reply) -> Reply
-    ensures { result ≡ placed clients reply }
-{
-    match reply {
-        Reply::Spawned(_) => Reply::Spawned(clients),
-        reply => reply,
     }
 }

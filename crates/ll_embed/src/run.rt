@@ -9,10 +9,11 @@ ghost use Rattle.ll_session.specs.declared.setup.Setup.{Setup};
 ghost use Rattle.ll_session.specs.declared.stop.Stop.{Stop};
 ghost use Rattle.ll_audit.specs.Saved.{saved_text};
 ghost use Rattle.ll_rights.specs.declared.limits.TheConstants.{TREE_NODES};
+ghost use Rattle.ll_program.specs.Policy.{header_of};
 ghost use Rattle.ll_wire.specs.Entries.{IsEntry};
 ghost use Rattle.ll_wire.specs.Transcript.{most_reads};
 ghost use Rattle.ll_wire.specs.declared.fault.SessionFault.{SessionFault};
-ghost use Rattle.ll_embed.specs.Answers.{HistoryAnswers, IsSetup, MayFail, RunAnswers, fault_in, header_of};
+ghost use Rattle.ll_embed.specs.Answers.{HistoryAnswers, IsSetup, MayFail, RunAnswers, fault_in};
 ghost use Rattle.ll_embed.specs.Answers.{order_in, stopped_status};
 ghost use Rattle.ll_embed.specs.declared.fault.Fault.{Fault};
 
@@ -21,9 +22,10 @@ use crate::fault::{Fault, fault_of};
 use crate::given::Given;
 use crate::text_run::{TextRun, run_alone};
 use ll_audit::save;
+use ll_program::header_of;
 use ll_seq::Entry;
 use ll_session::{Setup, Stop};
-use ll_wire::{Header, Version};
+use ll_wire::Header;
 use std::alloc::Global;
 
 fn status_of_stop(stop: &Option<Stop>) -> u32
@@ -60,18 +62,6 @@ pub fn transcript(alloc: Global, given: &Given<'_>, is_strict: bool) -> Answer
             text: ran.text,
         },
         Err(fault) => Answer::of_fault(alloc, fault, given.policy),
-    }
-}
-
-// Returns the header of the history of a run with this setup.
-fn header_of(setup: &Setup) -> Header
-    ensures header { result ≡ header_of setup.now }
-    ensures some { 1 ≤ result.nodes }
-    ensures most { result.nodes ≤ TREE_NODES }
-{
-    Header {
-        version: Version::Three(setup.rules.abi),
-        nodes: setup.nodes,
     }
 }
 

@@ -133,3 +133,7 @@ abbrev pub reason : Unlearned → List ℕ
 reason fault =
     option_map_or (λ entry. concat (codes "entry " ∷ decimal entry ∷ codes ": " ∷ words_on fault ∷ [])) (entry_in fault)
     (words_on fault)
+
+-- the line on a path of the words that leads to no node
+abbrev pub stray_line : List ℕ → List ℕ
+stray_line path = concat (codes "--beneath " ∷ path ∷ codes ": no such node\n" ∷ [])

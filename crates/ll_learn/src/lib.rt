@@ -34,7 +34,7 @@ pub use made::{Made, made_rights};
 pub use needs::{Asked, Moved, Needs, Origin};
 pub use preface::cut_of;
 pub use profile::{LearnedProfile, LearnedRule, Notes};
-pub use saved_lesson::{Learned, SavedLesson};
+pub use saved_lesson::{Learned, SavedLesson, stray_line};
 pub use site::{Site, Sites};
 pub use solution::{DraftFault, least_draft, need_of};
 pub use undenied::{Basis, Grant, Trial, Undenied, why_undenied};

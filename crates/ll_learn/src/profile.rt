@@ -1,7 +1,7 @@
 //! Learned profiles, and their text in the policy format.
 
-ghost use Rattle.std.specs.Prelude.{◌≡◌, ◌++◌, ◌<◌, IfOk, OnOk, map, string_bytes};
-ghost use Rattle.std.specs.List.{concat, flat_map};
+ghost use Rattle.std.specs.Prelude.{◌≡◌, ◌++◌, ◌<◌, IfOk, OnOk, string_bytes};
+ghost use Rattle.std.specs.List.{flat_map};
 ghost use Rattle.ll_path.specs.Word.{IsWord};
 ghost use Rattle.ll_learn.specs.Profile.{call_of, calls_of, comment, head_line, profile_text, rule_text, toml_byte};
 ghost use Rattle.ll_learn.specs.Profile.{toml_string};
@@ -11,6 +11,7 @@ use crate::site::copy_of;
 use ll_path::{Path, Target};
 use ll_rights::Access;
 use ll_seq::Call;
+use ll_why::concat;
 use std::alloc::{AllocError, Global};
 
 /// A rule of a learned layer.
@@ -43,17 +44,6 @@ pub struct LearnedProfile {
     pub is_least: bool,
     pub handled: Access,
     pub rules: Vec<LearnedRule>,
-}
-
-// Concatenates the parts.
-pub(crate) fn concat(alloc: Global, parts: &[&str]) -> Result<String, AllocError>
-    ensures { IfOk result (λ text. string_bytes text ≡ concat (map (λ p. p.now) parts.now)) }
-{
-    let mut text = String::new(alloc);
-    for part in parts {
-        text.push_str(part)?;
-    }
-    Ok(text)
 }
 
 fn push_byte(text: &mut String, byte: u8) -> Result<(), AllocError>

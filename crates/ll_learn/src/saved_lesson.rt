@@ -4,18 +4,18 @@ ghost use Rattle.std.specs.Prelude.{◌≡◌, ℕ, List, IfOk, string_bytes};
 ghost use Rattle.ll_wire.specs.Pieces.{pieces};
 ghost use Rattle.ll_audit.specs.Saved.{Tell};
 ghost use Rattle.ll_learn.specs.SavedLesson.{IsLearnedBy, IsTold, Teaches, client_among, connected, entry_in};
-ghost use Rattle.ll_learn.specs.SavedLesson.{entry_note, line_in, reason, words_on};
+ghost use Rattle.ll_learn.specs.SavedLesson.{entry_note, line_in, reason, stray_line, words_on};
 
 use crate::fault::Unlearned;
 use crate::learned::{Aim, learn};
 use crate::needs::Origin;
 use crate::preface::cut_of;
-use crate::profile::{LearnedProfile, Notes, concat};
+use crate::profile::{LearnedProfile, Notes};
 use ll_audit::{ReadFault, Saved};
 use ll_path::Path;
 use ll_rights::Access;
 use ll_seq::Entry;
-use ll_why::call_line;
+use ll_why::{call_line, concat};
 use std::alloc::{AllocError, Global};
 
 /// What is to be learned from a saved history.
@@ -144,6 +144,13 @@ impl SavedLesson<'_> {
             Err(ReadFault::NoMemory) => Err(AllocError),
         }
     }
+}
+
+/// Returns the line on a path of the words that leads to no node. Errors: memory ran out.
+pub fn stray_line(alloc: Global, path: &str) -> Result<String, AllocError>
+    ensures { IfOk result (λ line. string_bytes line ≡ stray_line path.now) }
+{
+    concat(alloc, &["--beneath ", path, ": no such node\n"])
 }
 
 impl Unlearned {

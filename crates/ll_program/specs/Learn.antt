@@ -1,11 +1,12 @@
 -- What the words of `learn` ask for. own
-use Rattle.std.specs.Prelude.{◌≡◌, ◌≢◌, ◌<◌, ◌^◌, ℕ, Bool, List, [], ◌∷◌, Option, Some, None, codes, unwrap_or}
+use Rattle.std.specs.Prelude.{◌≡◌, ◌≢◌, ◌<◌, ◌⊎◌, ◌^◌, ℕ, Bool, List, [], ◌∷◌, Option, Some, None, codes, unwrap_or}
 use Rattle.std.specs.Prelude.{IfNone, IfSome, if◌then◌else◌, is_some}
 use Rattle.clap.specs.Words.{Text}
 use Rattle.ll_rights.specs.Access.{access_text}
 use Rattle.ll_rights.specs.declared.access.Access.{Access}
 use Rattle.ll_policy.specs.Value.{is_name}
 use Rattle.ll_program.specs.Options.{LearnOrder}
+use Rattle.ll_program.specs.Paths.{HasBadWord}
 use Rattle.ll_program.specs.declared.learn.Lessons.{Lessons}
 use Rattle.ll_program.specs.declared.learn.Lessons.TheVariants.{Checks, History}
 
@@ -28,6 +29,10 @@ IsWithheld None rights = IfSome rights (λ none. none.0 ≡ 0) × IfNone rights 
 IsWithheld (Some word) rights =
     IfSome rights (λ set. word ≡ access_text set.0)
     × IfNone rights ((set : ℕ) → set < 2 ^ 64 → word ≢ access_text set)
+
+-- the words give no valid name of a profile, no rights, or no path
+abbrev pub HasWrongWord : LearnOrder → Type 0
+HasWrongWord order = (profile_name order ≡ None) ⊎ IsWithheld order.never None ⊎ HasBadWord order.beneath
 
 -- what `learn` learns from: files of checks, with a policy's nodes, or a history, for one of its clients
 pub data Lesson : Type 0 where

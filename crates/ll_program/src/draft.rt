@@ -25,6 +25,12 @@ pub(crate) fn are_of_one_file(a: &Metadata, b: &Metadata) -> bool {
     a.dev() == b.dev() && a.ino() == b.ino()
 }
 
+/// Reports whether what has this path is still this file. A link at the end of the path isn't followed.
+pub(crate) fn is_at(rt: &HostRuntime, path: &str, file: &Metadata) -> io::Result<bool> {
+    let there = fs::symlink_metadata(rt, path)?;
+    Ok(are_of_one_file(&there, file))
+}
+
 // Follows the links at the end of a name. The resulting name is no link, or leads nowhere.
 fn followed(rt: &HostRuntime, name: &str) -> io::Result<PathBuf> {
     let mut path = PathBuf::from_str(rt.alloc(), name)?;
@@ -183,8 +189,7 @@ impl<'a> Draft<'a> {
 
     // Reports whether the file with this name is still the draft.
     fn is_at(&self, path: &str) -> io::Result<bool> {
-        let there = fs::symlink_metadata(self.rt, path)?;
-        Ok(are_of_one_file(&there, &self.file.metadata()?))
+        is_at(self.rt, path, &self.file.metadata()?)
     }
 
     // Renames the draft over its file, after it is on the disk.

@@ -46,8 +46,8 @@ pub fn named(word: &str) -> Option<&str>
     if word == "-" { None } else { Some(word) }
 }
 
-/// A source that is opened by its first read, so that earlier faults are reported first. It may keep what is read, so
-/// that a fault in it can be shown without reading it again.
+/// A source that is opened by its first read, so that earlier faults are reported first. A read that fails as the first
+/// one leaves it closed. It may keep what is read, so that a fault in it can be shown without reading it again.
 #[derive(Drop)]
 pub struct Late<'a, S: Sources> {
     sources: &'a S,
@@ -113,7 +113,7 @@ impl<'a, S: Sources> Late<'a, S> {
         self.file
     }
 
-    /// Reports whether a read has opened it.
+    /// Reports whether it is open: a read of it has succeeded.
     pub fn is_open(&self) -> bool {
         self.input.is_some()
     }
@@ -123,8 +123,8 @@ impl<'a, S: Sources> Late<'a, S> {
         self.trouble
     }
 
-    /// Returns what was read, if a read has opened it, it is kept, and there was memory for it. With what is left, that
-    /// is the file's text.
+    /// Returns what was read, if it is open, that is kept, and there was memory for it. With what is left, that is the
+    /// file's text.
     pub fn text(&self) -> Option<&[u8]>
         ensures { IfSome result (λ kept. Consumes self.now.text self.now.left kept.now) }
     {
@@ -158,7 +158,9 @@ impl<S: Sources> Read for Late<'_, S> {
             None => match self.sources.open(self.file) {
                 Ok(mut input) => {
                     let first = input.read(buf);
-                    self.input = Some(input);
+                    if first.is_ok() {
+                        self.input = Some(input);
+                    }
                     first
                 }
                 Err(error) => Err(error),

@@ -2,7 +2,7 @@
 
 ghost use Rattle.std.specs.Prelude.{None};
 
-use crate::draft::{Draft, are_of_one_file};
+use crate::draft::{Draft, is_at};
 use ll_wire::Destination;
 use std::alloc::Global;
 use std::fs::Metadata;
@@ -28,10 +28,7 @@ impl Kept {
 
     // Reports whether it is still there.
     fn is_there(&self, rt: &HostRuntime) -> bool {
-        match fs::symlink_metadata(rt, self.path.as_str()) {
-            Ok(now) => are_of_one_file(&now, &self.file),
-            Err(_) => false,
-        }
+        is_at(rt, self.path.as_str(), &self.file).unwrap_or(false)
     }
 }
 

@@ -3,13 +3,13 @@
 ghost use Rattle.std.specs.Prelude.{◌≡◌, ◌+◌, ◌<◌, ◌≤◌, All, IfErr, IfOk, ℕ, length};
 ghost use Rattle.ll_rights.specs.declared.limits.TheConstants.{TREE_CLIENTS};
 ghost use Rattle.ll_wire.specs.Entries.{IsEntry};
-ghost use Rattle.ll_session.specs.Beside.{placed};
 ghost use Rattle.ll_session.specs.CallsRun.{Makes, RepliesTo, LinesGetTheReplies};
 ghost use Rattle.ll_session.specs.Progress.{Closes};
 ghost use Rattle.ll_session.specs.Run.{MayEnd};
 
 use crate::client_call::ClientCall;
 use crate::fault::RunFault;
+use crate::open_session::placed;
 use crate::refusal::Refusal;
 use crate::setup::Setup;
 use crate::shared::Shared;
@@ -28,16 +28,6 @@ pub enum CallReplies {
     Answered(Vec<Reply>),
     /// No call was made: a connect or a profile's call is refused like this.
     Refused(Refusal),
-}
-
-// Returns the reply as a session with this many clients gets it: the newest client is named by its place.
-fn by_place(clients: u64, reply: Reply) -> Reply
-    ensures { result ≡ placed clients reply }
-{
-    match reply {
-        Reply::Spawned(_) => Reply::Spawned(clients),
-        reply => reply,
-    }
 }
 
 impl<N: Shape> Shared<N> {
@@ -59,7 +49,7 @@ impl<N: Shape> Shared<N> {
         }
         let caller = before + client - 1;
         let reply = self.party.ask(rt, &self.tree, caller as usize, call);
-        by_place(self.len() - before, reply)
+        placed(self.len() - before, reply)
     }
 
     // Makes each call in turn. Returns the replies.

@@ -35,8 +35,8 @@ fn wants_memory(errno: Errno) -> bool
     matches!(errno, Errno::NoMemory)
 }
 
-// Returns the reply as it is written in a session with this many clients: lines name the newest by its place.
-fn placed(clients: u64, reply: Reply) -> Reply
+/// Returns the reply as it is written in a session with this many clients: lines name the newest by its place.
+pub fn placed(clients: u64, reply: Reply) -> Reply
     ensures { result ≡ placed clients reply }
 {
     match reply {

@@ -2,12 +2,12 @@
 
 ghost use Rattle.std.specs.Prelude.{◌≡◌, ◌∷◌, [], IfOk, OnOk, option_map, option_to_list, string_bytes};
 ghost use Rattle.ll_why.specs.PathRows.{AddsRows, AreRows, made_path, made_paths, paths_or_nodes, row_in};
-ghost use Rattle.ll_why.specs.PathRows.{target_path};
 
+use crate::paths::target_path;
 use crate::rights_json::{path_json, profile_json};
 use crate::table::row_text;
 use crate::{RightsAt, rights_at};
-use ll_path::{Path, Target};
+use ll_path::Path;
 use ll_plain::Plain;
 use ll_rules::Domain;
 use ll_seq::Call;
@@ -37,15 +37,6 @@ fn row_in(
         RowStyle::Line(layers) => row_text(alloc, path, told, layers),
         RowStyle::Json => path_json(alloc, path, told),
         RowStyle::ProfileJson(profile) => profile_json(alloc, profile, path, told),
-    }
-}
-
-fn target_path(target: &Target) -> Option<&Path>
-    ensures { option_map (λ p. p.now) result ≡ target_path target.now }
-{
-    match target {
-        Target::Good(path) => Some(path),
-        Target::Bad(_) => None,
     }
 }
 

@@ -1,11 +1,12 @@
 //! The nodes that a call needs rights on, as texts.
 
-ghost use Rattle.std.specs.Prelude.{◌≡◌, ◌++◌, IfOk, OnOk, string_bytes, take};
+ghost use Rattle.std.specs.Prelude.{◌≡◌, ◌++◌, IfOk, OnOk, option_map, string_bytes, take};
 ghost use Rattle.ll_decide.specs.Demands.{place_on, set_on};
 ghost use Rattle.ll_path.specs.Path.{path_text};
 ghost use Rattle.ll_seq.specs.Call.{first_path, path_of, second_path};
 ghost use Rattle.ll_why.specs.Reasons.{chain_of};
 ghost use Rattle.ll_why.specs.Names.{or_root, parted};
+ghost use Rattle.ll_why.specs.PathRows.{target_path};
 ghost use Rattle.ll_why.specs.Told.{asked_line, node_text, path_on, seat_text};
 
 use crate::Asks;
@@ -16,9 +17,10 @@ use ll_rights::Access;
 use ll_seq::{Call, Targets, targets_of};
 use std::alloc::{AllocError, Global};
 
-// Returns the path that the word spells, or None for a word that is no path: it counts as the root.
-fn spelled(target: &Target) -> Option<&Path>
-    ensures { or_root result ≡ path_of target.now }
+/// Returns the path that the word spells, or None for a word that is no path: it counts as the root.
+pub(crate) fn target_path(target: &Target) -> Option<&Path>
+    ensures path { option_map (λ p. p.now) result ≡ target_path target.now }
+    ensures root { or_root result ≡ path_of target.now }
 {
     match target {
         Target::Good(path) => Some(path),
@@ -32,8 +34,8 @@ fn first_path(call: &Call) -> Option<&Path>
 {
     match targets_of(call) {
         Targets::No => None,
-        Targets::One(target) => spelled(target),
-        Targets::Two(old, _) => spelled(old),
+        Targets::One(target) => target_path(target),
+        Targets::Two(old, _) => target_path(old),
     }
 }
 
@@ -43,8 +45,8 @@ fn second_path(call: &Call) -> Option<&Path>
 {
     match targets_of(call) {
         Targets::No => None,
-        Targets::One(target) => spelled(target),
-        Targets::Two(_, new) => spelled(new),
+        Targets::One(target) => target_path(target),
+        Targets::Two(_, new) => target_path(new),
     }
 }
 

@@ -10,6 +10,6 @@ returns-then-client-len-clause-answers g c =
 pub returns-clause-answers : goal.returns-clause-answers
 returns-clause-answers g c =
     somebody_calls g.N.Shape.limit c.args.before c.args.self.now.party c.args.made c.is_spelled.ensures
-    (c.len-2.result - c.args.before) c.ask-reply.result c.by_place.result c.ask-reply.new.self
+    (c.len-2.result - c.args.before) c.ask-reply.result c.placed.result c.ask-reply.new.self
     (omega (arith, c.len.ensures, c.if-client-len.false, c.requires)) c.ask-reply.ensures.asks
-    (ap (λ n. n - c.args.before) c.len-2.ensures) c.by_place.ensures
+    (ap (λ n. n - c.args.before) c.len-2.ensures) c.placed.ensures
