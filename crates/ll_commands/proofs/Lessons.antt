@@ -1,19 +1,19 @@
 -- Why nothing is known of a history, and how what is learned of it is told.
-use Rattle.std.proofs.Common.{◌≡◌, ◌⊎◌, ◌∙◌, ℕ, List, Option, None, Result, Err, ap, inl, inr, option_map, refl, subst}
-use Rattle.std.proofs.Common.{sym}
+use Rattle.std.proofs.Common.{◌≡◌, ◌⊎◌, ◌∙◌, ℕ, Bool, List, Option, None, Result, Err, ap, false, inl, inr, option_map}
+use Rattle.std.proofs.Common.{refl, subst, sym, true}
 use Rattle.std.specs.Prelude.{string_bytes}
 use Rattle.std.specs.Borrow.{Bor}
 use Rattle.std.specs.declared.alloc.Global.{Global}
 use Rattle.std.specs.declared.string.String.{String}
 use Rattle.ll_wire.specs.WriterGains.{AppendsFront}
 use Rattle.ll_learn.specs.declared.saved_lesson.Learned.{Learned}
-use Rattle.ll_learn.specs.declared.fault.Unlearned.TheVariants.{NoNode}
+use Rattle.ll_learn.specs.declared.fault.Unlearned.{Unlearned}
 use Rattle.ll_learn.specs.declared.saved_lesson.Learned.TheVariants.{Many, Nothing, Profile}
 use Rattle.ll_program.specs.Options.{LearnOrder}
 use Rattle.ll_program.specs.declared.conclusion.Conclusion.{Conclusion}
 use Rattle.ll_program.specs.declared.failure.Failure.{Failure}
 use Rattle.ll_program.specs.declared.failure.Failure.TheVariants.{CommandLine, File, NoMemory, Output}
-use Rattle.ll_commands.specs.Learn.{IsLearnedOf, IsLearnedText, IsLearning, LacksLesson}
+use Rattle.ll_commands.specs.Learn.{IsLearnedOf, IsLearnedText, IsLearning, LacksLesson, end_without, is_of_history}
 
 -- the name that is told is none
 pub nameless : (told : Option (Bor (List ℕ))) (name : Option (List ℕ))
@@ -35,14 +35,17 @@ module _ (order : LearnOrder) (text : List ℕ) (told : Learned) where
       subst (λ f. IsLearning order text out out' (Err f)) (sym front.0)
       (bytes, subst (IsLearnedText order text) (sym same) whole, front.1)
 
-  -- a path leads to no node
-  pub told_stray : (index : ℕ) (out : Option (List ℕ)) (r : Result Conclusion Failure)
-      → told ≡ Nothing (NoNode index) → (r ≡ Err CommandLine) ⊎ (r ≡ Err NoMemory) → IsLearnedOf order text told
-      → IsLearning order text out out r
-  told_stray index out r is (inl e) learned =
-      subst (IsLearning order text out out) (sym e)
-      (inr (inl (index, subst (IsLearnedOf order text) is learned)), refl)
-  told_stray index out r is (inr e) learned = subst (IsLearning order text out out) (sym e) refl
+  -- nothing is learned
+  pub told_nothing : (fault : Unlearned) (out : Option (List ℕ)) (end r : Result Conclusion Failure)
+      → told ≡ Nothing fault → end ≡ end_without (is_of_history fault) → (r ≡ end) ⊎ (r ≡ Err NoMemory)
+      → IsLearnedOf order text told → IsLearning order text out out r
+  told_nothing fault out end r is so (inr e) learned = subst (IsLearning order text out out) (sym e) refl
+  told_nothing fault out end r is so (inl e) learned =
+      subst (IsLearning order text out out) (sym (e ∙ so)) (go (is_of_history fault) refl)
+    where
+      go : (b : Bool) → is_of_history fault ≡ b → IsLearning order text out out (end_without b)
+      go true history = (fault, history, subst (IsLearnedOf order text) is learned, refl)
+      go false words = (inr (inl (fault, words, subst (IsLearnedOf order text) is learned)), refl)
 
   -- it would have too many rules
   pub told_many : (rules : ℕ) (out : Option (List ℕ)) (r : Result Conclusion Failure) → told ≡ Many rules

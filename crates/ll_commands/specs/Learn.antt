@@ -68,10 +68,16 @@ abbrev pub is_of_history : Unlearned → Bool
 is_of_history (NoNode index) = false
 is_of_history other = true
 
+-- how it ends if nothing is learned, by whether the fault is in the history
+abbrev pub end_without : Bool → Result Conclusion Failure
+end_without true = Ok (Checked checked.Failed)
+end_without false = Err CommandLine
+
 -- the words don't fit the history: a path of theirs leads to no node, or they allow fewer rules
 abbrev pub IsUnfit : LearnOrder → List ℕ → Type 0
 IsUnfit order text =
-    ((index : ℕ) × LearnsNothing order text (NoNode index)) ⊎ ((rules : ℕ) × LearnsMuch order text rules)
+    ((fault : Unlearned) × (is_of_history fault ≡ false) × LearnsNothing order text fault)
+    ⊎ ((rules : ℕ) × LearnsMuch order text rules)
 
 -- ---- How it ends
 

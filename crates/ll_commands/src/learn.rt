@@ -3,7 +3,7 @@
 ghost use Rattle.std.specs.Prelude.{◌≡◌, ◌⊎◌, ℕ, Err, IfErr, IfOk, IfSome, List, Some};
 ghost use Rattle.ll_program.specs.Learn.{profile_name};
 ghost use Rattle.ll_program.specs.Options.{learn_in};
-ghost use Rattle.ll_commands.specs.Learn.{IsLearnedOf, IsLearning, LacksLesson};
+ghost use Rattle.ll_commands.specs.Learn.{IsLearnedOf, IsLearning, LacksLesson, end_without, is_of_history};
 
 use ll_audit::Verdict;
 use ll_learn::{Learned, SavedLesson, Unlearned, stray_line};
@@ -34,10 +34,10 @@ fn learned_by(
         most: options.most_rules(),
         name,
     };
-    match lesson.learned(alloc, history) {
-        Ok(learned) => Ok(learned),
-        Err(_) => Err(Failure::NoMemory),
-    }
+    let Ok(learned) = lesson.learned(alloc, history) else {
+        return Err(Failure::NoMemory);
+    };
+    Ok(learned)
 }
 
 /// Learns from the saved history in this file. Errors: a word is wrong, the file can't be read, or memory ran out.
@@ -70,10 +70,39 @@ fn line_on(
     }
 }
 
-// Returns the line on why nothing is learned from the history with this name.
-fn fault_line(alloc: Global, name: &str, fault: Unlearned) -> Result<String, AllocError> {
+// Returns the line on why nothing is learned from the history with this name: on the path that leads to no node, or on
+// the history.
+fn fault_line(
+    alloc: Global,
+    options: &LearnOptions,
+    name: &str,
+    fault: Unlearned,
+) -> Result<String, AllocError> {
+    if let Unlearned::NoNode(index) = fault
+        && let Some(path) = options.beneath.get(index)
+    {
+        return stray_line(alloc, path);
+    }
     let words = fault.text(alloc)?;
     line_on(alloc, name, fault.line(), words.as_str())
+}
+
+// Reports whether the fault is in the history, and not a path of the words.
+fn is_of_history(fault: Unlearned) -> bool
+    ensures { result ≡ is_of_history fault }
+{
+    !matches!(fault, Unlearned::NoNode(_))
+}
+
+// Returns how it ends if nothing is learned.
+fn end_without(fault: Unlearned) -> Result<Conclusion, Failure>
+    ensures { result ≡ end_without (is_of_history fault) }
+{
+    if is_of_history(fault) {
+        Ok(Conclusion::Checked(Checked::Failed))
+    } else {
+        Err(Failure::CommandLine)
+    }
 }
 
 // Returns the line on too many rules.
@@ -126,13 +155,9 @@ pub fn tell_learned<W: Write, E: Write>(
             let end = Ok(Conclusion::Judged(Verdict::BadLine(*line)));
             refused(err, line_on(alloc, name, Some(*line), "bad line"), end)
         }
-        Learned::Nothing(Unlearned::NoNode(index)) => {
-            let path = options.beneath.get(*index).copied().unwrap_or("");
-            refused(err, stray_line(alloc, path), Err(Failure::CommandLine))
-        }
         Learned::Nothing(fault) => {
-            let end = Ok(Conclusion::Checked(Checked::Failed));
-            refused(err, fault_line(alloc, name, *fault), end)
+            let line = fault_line(alloc, options, name, *fault);
+            refused(err, line, end_without(*fault))
         }
         Learned::Many(rules) => {
             let line = many_line(alloc, options, *rules);
