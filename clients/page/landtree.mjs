@@ -235,6 +235,7 @@ function learn(tree, read, words, lesson) {
   // The text begins with the history's line, if it is about one.
   if (told.status === ENDED) return fault(ENDED, `${lesson.history}:${told.text.replace(/^(?![0-9])/, ' ')}`);
   if (told.status !== WRONG.status) return told;
+  if (told.text.startsWith('--beneath ')) return fault(2, `${told.text}landtree: command line\n`);
   const isMany = /^[0-9]+ rules, /.test(told.text);
   if (!isMany) return WRONG;
   const many = told.text.trim();

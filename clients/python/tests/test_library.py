@@ -59,6 +59,9 @@ class Libraries(Case):
                 self.library.learn(history, options)
             self.assertEqual(raised.exception.status, 2)
         self.assertEqual(raised.exception.words, "2 rules, 1 may be\n")
+        with self.assertRaises(LibraryFault) as raised:
+            self.library.learn(history, LearnOptions(beneath=("/u", "/v")))
+        self.assertEqual(raised.exception.words, "--beneath /v: no such node\n")
 
     def test_profiles(self):
         two = worked("rights-by-two-layers", "policy.toml")

@@ -1,14 +1,14 @@
 -- What is learned from a saved history. own
 use Rattle.std.specs.Prelude.{◌≡◌, ◌≢◌, ◌⊎◌, ◌<◌, ◌≤◌, ◌^◌, ℕ, ◌==◌, List, [], ◌∷◌, ◌++◌, Option, Some, None, codes}
-use Rattle.std.specs.Prelude.{decimal, map, string_bytes, true, if◌then◌else◌}
+use Rattle.std.specs.Prelude.{decimal, map, slice_get, string_bytes, true, if◌then◌else◌}
 use Rattle.std.specs.Str.{IsUtf8}
 use Rattle.std.specs.Str.Lines.{lines}
 use Rattle.ll_rights.specs.Access.{access_text}
 use Rattle.ll_rights.specs.declared.access.Access.{Access}
 use Rattle.ll_rights.specs.declared.limits.TheConstants.{RULESET_INODES}
-use Rattle.ll_path.specs.Path.{path_of_text}
+use Rattle.ll_path.specs.Path.{Path, path_of_text, path_text}
 use Rattle.ll_policy.specs.Value.{is_name}
-use Rattle.ll_learn.specs.SavedLesson.{IsLearnedBy, line_in, reason}
+use Rattle.ll_learn.specs.SavedLesson.{IsLearnedBy, line_in, reason, stray_line}
 use Rattle.ll_learn.specs.declared.fault.Unlearned.{Unlearned}
 use Rattle.ll_learn.specs.declared.fault.Unlearned.TheVariants as fault
 use Rattle.ll_learn.specs.declared.saved_lesson.Learned.{Learned}
@@ -98,18 +98,28 @@ unlearned_status (fault.Unmet at) = 3
 unlearned_status (fault.NoNode index) = status_of Misfit
 unlearned_status fault.NoMemory = status_of NoMemory
 
+-- that path, if the fault is one
+abbrev pub stray_path : List Path → Unlearned → Option Path
+stray_path beneath (fault.NoNode index) = slice_get beneath index
+stray_path beneath other = None
+
+-- the line on why nothing is learned: on such a path, or else on the history
+abbrev pub unlearned_line : Unlearned → Option Path → List ℕ
+unlearned_line fault (Some path) = stray_line (path_text path)
+unlearned_line fault None = line_at (line_in fault) (reason fault)
+
 -- The profile's text, or a line on why there is none. On too many rules the words are for people
-abbrev pub IsLearnTold : Learned → (status : ℕ) → (text : List ℕ) → Type 0
-IsLearnTold (Profile written) status text = (text ≡ string_bytes written) × (status ≡ 0)
-IsLearnTold (BadLine line) status text = (text ≡ line_at (Some line) (codes "bad line")) × (status ≡ 3)
-IsLearnTold (Nothing fault) status text =
-    (text ≡ line_at (line_in fault) (reason fault)) × (status ≡ unlearned_status fault)
-IsLearnTold (Many rules) status text = status ≡ status_of Misfit
+abbrev pub IsLearnTold : (beneath : List Path) → Learned → (status : ℕ) → (text : List ℕ) → Type 0
+IsLearnTold beneath (Profile written) status text = (text ≡ string_bytes written) × (status ≡ 0)
+IsLearnTold beneath (BadLine line) status text = (text ≡ line_at (Some line) (codes "bad line")) × (status ≡ 3)
+IsLearnTold beneath (Nothing fault) status text =
+    (text ≡ unlearned_line fault (stray_path beneath fault)) × (status ≡ unlearned_status fault)
+IsLearnTold beneath (Many rules) status text = status ≡ status_of Misfit
 
 -- what the history teaches, if that can be asked
 abbrev pub LearnAnswers : LearnOrder → (history : List ℕ) → (status : ℕ) → (text : List ℕ) → Type 0
 LearnAnswers o history status text =
     ((lesson : SavedLesson) × (learned : Learned) × IsLessonOf o lesson × IsLearnedBy lesson history learned
-    × IsLearnTold learned status text)
+    × IsLearnTold lesson.beneath.now learned status text)
     ⊎ (IsMisasked o × (status ≡ status_of Misfit))
     ⊎ (status ≡ status_of NoMemory)

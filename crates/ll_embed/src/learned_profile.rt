@@ -1,23 +1,24 @@
 //! The least profile for what a saved history did.
 
-ghost use Rattle.std.specs.Prelude.{◌≡◌, ◌⊎◌, ◌<◌, ◌≤◌, IfErr, IfOk, OnOk, map, string_bytes, true};
-ghost use Rattle.std.specs.List.{list_all};
+ghost use Rattle.std.specs.Prelude.{◌≡◌, ◌⊎◌, ◌<◌, ◌≤◌, IfErr, IfOk, OnOk, map, option_map, string_bytes, true};
 ghost use Rattle.std.specs.Str.{IsUtf8};
 ghost use Rattle.std.specs.Str.Lines.{lines};
 ghost use Rattle.ll_rights.specs.declared.limits.TheConstants.{RULESET_INODES};
 ghost use Rattle.ll_path.specs.Path.{path_of_text};
-ghost use Rattle.ll_policy.specs.Value.{is_name, is_name_byte};
+ghost use Rattle.ll_policy.specs.Value.{is_name};
 ghost use Rattle.ll_learn.specs.declared.saved_lesson.Learned.{Learned};
 ghost use Rattle.ll_embed.specs.LearnAnswers.{IsLearnTold, IsMisasked, IsNoName, IsWithheld, LacksRights, LearnAnswers};
-ghost use Rattle.ll_embed.specs.LearnAnswers.{client_by, learn_order_in, line_at, most_by, name_by, unlearned_status};
+ghost use Rattle.ll_embed.specs.LearnAnswers.{client_by, learn_order_in, line_at, most_by, name_by, stray_path};
+ghost use Rattle.ll_embed.specs.LearnAnswers.{unlearned_line, unlearned_status};
 ghost use Rattle.ll_embed.specs.Lines.{LacksPath};
 ghost use Rattle.ll_embed.specs.declared.fault.Fault.{Fault};
 
 use crate::answer::Answer;
 use crate::fault::Fault;
 use crate::lines::paths_in;
-use ll_learn::{Learned, SavedLesson, Unlearned};
+use ll_learn::{Learned, SavedLesson, Unlearned, stray_line};
 use ll_path::Path;
+use ll_policy::is_name;
 use ll_program::Failure;
 use ll_rights::Access;
 use ll_rights::limits::RULESET_INODES;
@@ -38,19 +39,6 @@ pub struct LearnGiven<'a> {
     /// Directories, each in a line.
     pub beneath: &'a [u8],
     pub name: &'a [u8],
-}
-
-fn is_name(name: &str) -> bool
-    ensures { result ≡ is_name name.now }
-{
-    !name.is_empty() && name.len() <= 32 && are_name_bytes(name)
-}
-
-fn are_name_bytes(name: &str) -> bool
-    ensures { result ≡ list_all is_name_byte name.now }
-{
-    name.bytes()
-        .all(|b| matches!(b, b'a'..=b'z' | b'0'..=b'9' | b'-'))
 }
 
 // Returns the line on what is wrong with a history, in this line of it or as a whole.
@@ -154,12 +142,39 @@ fn status_of_fault(fault: Unlearned) -> u32
     }
 }
 
-// Returns the answer on why nothing is learned.
-fn answer_on(alloc: Global, fault: Unlearned) -> Result<Answer, AllocError>
-    ensures { IfOk result (λ answer. IsLearnTold (Learned.Nothing fault) answer.status answer.text.items) }
+// Returns the path that leads to no node, if one does.
+fn stray_path(beneath: &[Path], fault: Unlearned) -> Option<&Path>
+    ensures { option_map (λ path. path.now) result ≡ stray_path beneath.now fault }
 {
-    let words = fault.text(alloc)?;
-    answer_at(alloc, status_of_fault(fault), fault.line(), words.as_str())
+    match fault {
+        Unlearned::NoNode(index) => beneath.get(index),
+        _ => None,
+    }
+}
+
+// Returns the line on why nothing is learned.
+fn unlearned_line(alloc: Global, beneath: &[Path], fault: Unlearned) -> Result<String, AllocError>
+    ensures { IfOk result (λ line. string_bytes line ≡ unlearned_line fault (stray_path beneath.now fault)) }
+{
+    match stray_path(beneath, fault) {
+        Some(path) => stray_line(alloc, path.as_str()),
+        None => {
+            let words = fault.text(alloc)?;
+            line_at(alloc, fault.line(), words.as_str())
+        }
+    }
+}
+
+// Returns the answer on why nothing is learned.
+fn answer_on(alloc: Global, beneath: &[Path], fault: Unlearned) -> Result<Answer, AllocError>
+    ensures { IfOk result (λ answer.
+        IsLearnTold beneath.now (Learned.Nothing fault) answer.status answer.text.items) }
+{
+    let text = unlearned_line(alloc, beneath, fault)?;
+    Ok(Answer {
+        status: status_of_fault(fault),
+        text: text.into_bytes(),
+    })
 }
 
 // Returns the answer on a profile that would have so many rules.
@@ -174,8 +189,13 @@ fn many_answer(alloc: Global, rules: usize, most: usize) -> Result<Answer, Alloc
 }
 
 // Returns the answer that tells what is learned.
-fn answer_of(alloc: Global, learned: Learned, most: usize) -> Result<Answer, AllocError>
-    ensures { IfOk result (λ answer. IsLearnTold learned answer.status answer.text.items) }
+fn answer_of(
+    alloc: Global,
+    lesson: &SavedLesson<'_>,
+    learned: Learned,
+) -> Result<Answer, AllocError>
+    ensures { IfOk result (λ answer.
+        IsLearnTold lesson.now.beneath.now learned answer.status answer.text.items) }
 {
     match learned {
         Learned::Profile(text) => Ok(Answer {
@@ -183,8 +203,8 @@ fn answer_of(alloc: Global, learned: Learned, most: usize) -> Result<Answer, All
             text: text.into_bytes(),
         }),
         Learned::BadLine(line) => answer_at(alloc, 3, Some(line), "bad line"),
-        Learned::Nothing(fault) => answer_on(alloc, fault),
-        Learned::Many(rules) => many_answer(alloc, rules, most),
+        Learned::Nothing(fault) => answer_on(alloc, lesson.beneath, fault),
+        Learned::Many(rules) => many_answer(alloc, rules, lesson.most),
     }
 }
 
@@ -237,7 +257,7 @@ impl LearnGiven<'_> {
         let Ok(learned) = lesson.learned(alloc, history) else {
             return Err(Fault::NoMemory);
         };
-        match answer_of(alloc, learned, most) {
+        match answer_of(alloc, &lesson, learned) {
             Ok(answer) => Ok(answer),
             Err(_) => Err(Fault::NoMemory),
         }

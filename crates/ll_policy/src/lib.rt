@@ -22,3 +22,4 @@ pub use path_text::PathText;
 pub use place::{Place, PlacedFault};
 pub use policy::Policy;
 pub use profile::{Layer, Rule};
+pub use values::is_name;

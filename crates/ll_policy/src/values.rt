@@ -114,8 +114,8 @@ fn are_name_bytes(name: &str) -> bool
         .all(|b| matches!(b, b'a'..=b'z' | b'0'..=b'9' | b'-'))
 }
 
-/// Whether a profile may have this name.
-pub(crate) fn is_name(name: &str) -> bool
+/// Reports whether a profile may have this name: 1 to 32 of `a` to `z`, `0` to `9` and `-`.
+pub fn is_name(name: &str) -> bool
     ensures { result ≡ is_name name.now }
 {
     !name.is_empty() && name.len() <= 32 && are_name_bytes(name)

@@ -2,11 +2,9 @@
 
 ghost use Rattle.std.specs.Prelude.{◌≡◌, ◌≤◌, codes, false, option_map, IfOk, IfSome, Some};
 ghost use Rattle.std.proofs.Props.{props};
-ghost use Rattle.std.specs.List.{list_all};
 ghost use Rattle.clap.specs.Words.{app_of, rule_of};
 ghost use Rattle.clap.specs.declared.builder.command.Command.TheViews.{out-Command as fields_of};
 ghost use Rattle.clap.specs.declared.builder.value_parser.ValueParser.TheVariants.{Unsigned};
-ghost use Rattle.ll_policy.specs.Value.{is_name, is_name_byte};
 ghost use Rattle.ll_program.specs.Apps.{learn, saved, valued};
 ghost use Rattle.ll_rights.specs.declared.limits.TheConstants.{RULESET_INODES, TREE_NODES};
 
@@ -15,6 +13,7 @@ use crate::command::{
 };
 use crate::values::{number_of, texts_of};
 use clap::{Arg, ArgMatches, Command};
+use ll_policy::is_name;
 use ll_rights::Access;
 use ll_rights::limits::{RULESET_INODES, TREE_NODES};
 use std::alloc::{AllocError, Global};
@@ -58,20 +57,6 @@ pub struct LearnOptions<'a> {
     ghost most_within: { IfSome most (λ rules. (1 ≤ rules) × (rules ≤ RULESET_INODES)) } by { Prim.hlevel props },
     ghost some: { 1 ≤ nodes },
     ghost most_nodes: { nodes ≤ TREE_NODES },
-}
-
-fn are_name_bytes(name: &str) -> bool
-    ensures { result ≡ list_all is_name_byte name.now }
-{
-    name.bytes()
-        .all(|b| matches!(b, b'a'..=b'z' | b'0'..=b'9' | b'-'))
-}
-
-// Reports whether a profile may have this name.
-fn is_profile_name(name: &str) -> bool
-    ensures { result ≡ is_name name.now }
-{
-    !name.is_empty() && name.len() <= 32 && are_name_bytes(name)
 }
 
 impl<'a> LearnOptions<'a> {
@@ -139,11 +124,7 @@ impl<'a> LearnOptions<'a> {
         ensures { option_map (λ name. name.now) result ≡ profile_name (learn_in self.now) }
     {
         let name = self.name_told();
-        if is_profile_name(name) {
-            Some(name)
-        } else {
-            None
-        }
+        if is_name(name) { Some(name) } else { None }
     }
 
     /// Returns the most rules that the profile may have.
