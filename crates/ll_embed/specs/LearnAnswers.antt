@@ -98,12 +98,12 @@ unlearned_status (fault.Unmet at) = 3
 unlearned_status (fault.NoNode index) = status_of Misfit
 unlearned_status fault.NoMemory = status_of NoMemory
 
--- that path, if the fault is one
+-- the path that leads to no node, if that is the fault
 abbrev pub stray_path : List Path → Unlearned → Option Path
 stray_path beneath (fault.NoNode index) = slice_get beneath index
 stray_path beneath other = None
 
--- the line on why nothing is learned: on such a path, or else on the history
+-- the line on why nothing is learned: on that path, or else on the history
 abbrev pub unlearned_line : Unlearned → Option Path → List ℕ
 unlearned_line fault (Some path) = stray_line (path_text path)
 unlearned_line fault None = line_at (line_in fault) (reason fault)
