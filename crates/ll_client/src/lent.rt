@@ -3,10 +3,8 @@
 ghost use Rattle.std.specs.Prelude.{◌≡◌, ◌<◌, ◌≤◌, ◌++◌, ◌∷◌, [], ℕ, length, vec_len};
 ghost use Rattle.std.specs.Vec.{vec_capacity};
 ghost use Rattle.ll_client.specs.declared.lent.TheConstants.{LENT_SLOTS};
-ghost use Rattle.ll_node.specs.Lent as contents;
 
-use ll_node::{Held, Slot};
-use ll_rights::Kind;
+use ll_node::Held;
 use std::alloc::{AllocError, Global};
 use std::mem;
 
@@ -21,16 +19,6 @@ pub(crate) struct Lent {
     pub(crate) held: Vec<Held>,
     ghost numbers_fit: { LENT_SLOTS ≤ vec_capacity numbers },
     ghost held_fits: { LENT_SLOTS ≤ vec_capacity held },
-}
-
-/// Returns the contents of a vacant slot. Takes no memory.
-fn vacant(alloc: Global) -> Held
-    ensures { result ≡ contents.vacant }
-{
-    Held {
-        inode: 0,
-        node: Slot::new(alloc, Kind::Reg),
-    }
 }
 
 impl Lent {
@@ -63,7 +51,7 @@ impl Lent {
     {
         self.numbers.push_reserved(number);
         self.held
-            .push_reserved(mem::replace(from, vacant(self.alloc)));
+            .push_reserved(mem::replace(from, Held::vacant(self.alloc)));
     }
 
     /// Gives back what was lent last.

@@ -4,7 +4,6 @@ use Rattle.std.specs.Prelude.{slice_index_or, false, Option, Some, None, option_
 use Rattle.std.specs.Prelude.{if◌then◌else◌, IfSome, vec_capacity, ⊤}
 use Rattle.std.specs.Option.{option_map_or}
 use Rattle.ll_rights.specs.declared.limits.TheConstants.{PATH_NAMES}
-use Rattle.std.specs.Borrow.{Bor}
 use Rattle.ll_path.specs.Path.{Path, parent}
 use Rattle.ll_path.specs.Place.{IsPlace}
 use Rattle.ll_decide.specs.Masks.{AreMasks}
@@ -115,11 +114,6 @@ pub record IsSeat (seat : Inside) : Type 0 where
   pub fit : IfSome seat.call (FitAt seat.stage seat)
 
 -- ---- What a walk does in its seat
-
--- the names of the path, or none without a path
-abbrev pub names_in : Option (Bor Path) → Path
-names_in None = []
-names_in (Some path) = path.now
 
 abbrev pub none_left : Ahead → Bool
 none_left ahead = ahead.place.depth == ahead.len

@@ -8,7 +8,7 @@ ghost use Rattle.ll_node.specs.InodeTable.{IsTable};
 ghost use Rattle.ll_path.specs.Path as paths;
 ghost use Rattle.ll_path.specs.Path.{Path};
 ghost use Rattle.ll_rights.specs.Map.{len};
-ghost use Rattle.ll_seq.specs.Call.{first_path, path_of, second_path};
+ghost use Rattle.ll_seq.specs.Call.{first_path, second_path};
 ghost use Rattle.ll_seq.specs.State.{State};
 ghost use Rattle.ll_laws.specs.Walk.{is_in};
 ghost use Rattle.ll_laws.specs.World as world;
@@ -22,9 +22,8 @@ use crate::seat::Seat;
 use crate::way::has_two_paths;
 use crate::whereabouts::{is_in, is_lent};
 use ll_node::{Held, Inodes, find};
-use ll_path::Target;
 use ll_rights::Errno;
-use ll_seq::{Call, Found, Spot, Targets, targets_of};
+use ll_seq::{Call, Found, Spot, Targets, names_root, targets_of};
 
 /// The result of checking a commit.
 #[derive(Clone, Copy)]
@@ -162,15 +161,6 @@ pub(crate) struct Sight<'a> {
     pub lent: &'a [Held],
 }
 
-fn is_root(target: &Target) -> bool
-    ensures { result ≡ paths.is_root (path_of target.now) }
-{
-    match target {
-        Target::Good(path) => path.is_root(),
-        Target::Bad(_) => true,
-    }
-}
-
 /// Whether the first path is the root, and whether the second is.
 pub(crate) fn are_roots(call: &Call) -> (bool, bool)
     ensures first { result.0 ≡ paths.is_root (first_path call.now) }
@@ -178,8 +168,8 @@ pub(crate) fn are_roots(call: &Call) -> (bool, bool)
 {
     match targets_of(call) {
         Targets::No => (true, true),
-        Targets::One(target) => (is_root(target), is_root(target)),
-        Targets::Two(old, new) => (is_root(old), is_root(new)),
+        Targets::One(target) => (names_root(target), names_root(target)),
+        Targets::Two(old, new) => (names_root(old), names_root(new)),
     }
 }
 

@@ -51,7 +51,8 @@ pub(crate) struct Leg {
 }
 
 impl Leg {
-    ghost use Rattle.ll_journal.specs.Seated.{IsRoomy, StandsAt, last_of, names_in};
+    ghost use Rattle.ll_seq.specs.Found.{or_root};
+    ghost use Rattle.ll_journal.specs.Seated.{IsRoomy, StandsAt, last_of};
 
     pub(crate) fn new(alloc: Global) -> Result<Leg, AllocError>
         ensures { IfOk result IsRoomy }
@@ -82,10 +83,10 @@ impl Leg {
         requires roomy { IsRoomy self.old }
         requires short { length self.old.chain.items < PATH_NAMES }
         requires masks { AreMasks self.old.masks domain.now self.old.chain.items }
-        requires place { IsPlace (names_in path) self.old.ahead.place }
-        requires name { IsSome (slice_get (names_in path) self.old.ahead.place.depth) }
+        requires place { IsPlace (or_root path) self.old.ahead.place }
+        requires name { IsSome (slice_get (or_root path) self.old.ahead.place.depth) }
         ensures stands { StandsAt domain.now (self.old.chain.items ++ inode ∷ []) self.new }
-        ensures place { IsPlace (names_in path.entry) self.new.ahead.place }
+        ensures place { IsPlace (or_root path.entry) self.new.ahead.place }
         ensures depth { self.new.ahead.place.depth ≡ self.old.ahead.place.depth + 1 }
         ensures len { self.new.ahead.len ≡ self.old.ahead.len }
     {

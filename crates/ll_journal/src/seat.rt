@@ -24,13 +24,11 @@ use crate::pair::ReplyPair;
 use crate::stage::{Stage, Turn, turn_of};
 use crate::station::{Station, split_station, trunk_station};
 use crate::walked::walks;
-use crate::way::{
-    first_path, has_two_paths, know_ways, next_name, second_path, trunk_len, way_len,
-};
+use crate::way::{has_two_paths, know_ways, next_name, trunk_len, way_len};
 use ll_decide::Masks;
 use ll_node::{Held, Inodes, enact};
 use ll_rights::Abi;
-use ll_seq::{Call, ClientRecord, Descriptor, Found, NumberMap, Rules};
+use ll_seq::{Call, ClientRecord, Descriptor, Found, NumberMap, Rules, first_path, second_path};
 use std::alloc::{AllocError, Global};
 use std::marker::Model;
 use std::mem::replace;

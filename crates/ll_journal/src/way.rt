@@ -5,48 +5,17 @@ ghost use Rattle.ll_path.specs.Path.{common, parent};
 ghost use Rattle.ll_path.specs.Place.{IsPlace};
 ghost use Rattle.ll_rights.specs.declared.limits.TheConstants.{PATH_NAMES};
 ghost use Rattle.ll_seq.specs.Call as calls;
+ghost use Rattle.ll_seq.specs.Found.{or_root};
 ghost use Rattle.ll_laws.specs.Walk as walks;
-ghost use Rattle.ll_journal.specs.Seated.{AreShort, name_on, names_in};
+ghost use Rattle.ll_journal.specs.Seated.{AreShort, name_on};
 
 use crate::leg::Ahead;
 use ll_path::{Path, Place, Target};
-use ll_seq::{Call, Targets, targets_of};
-
-/// The path of the argument, if it is valid.
-fn spelled(target: &Target) -> Option<&Path>
-    ensures { names_in result ≡ calls.path_of target.now }
-{
-    match target {
-        Target::Good(path) => Some(path),
-        Target::Bad(_) => None,
-    }
-}
-
-/// The call's first path, if it has one.
-pub(crate) fn first_path(call: &Call) -> Option<&Path>
-    ensures { names_in result ≡ calls.first_path call.now }
-{
-    match targets_of(call) {
-        Targets::No => None,
-        Targets::One(target) => spelled(target),
-        Targets::Two(old, _) => spelled(old),
-    }
-}
-
-/// The call's second path, or its first if it has only one.
-pub(crate) fn second_path(call: &Call) -> Option<&Path>
-    ensures { names_in result ≡ calls.second_path call.now }
-{
-    match targets_of(call) {
-        Targets::No => None,
-        Targets::One(target) => spelled(target),
-        Targets::Two(_, new) => spelled(new),
-    }
-}
+use ll_seq::{Call, Targets, target_path, targets_of};
 
 /// The number of names that lead to the path's parent.
 pub(crate) fn way_len(path: Option<&Path>) -> usize
-    ensures len { result ≡ length (parent (names_in path.entry)) }
+    ensures len { result ≡ length (parent (or_root path.entry)) }
     ensures short { result < PATH_NAMES }
 {
     match path {
@@ -57,7 +26,7 @@ pub(crate) fn way_len(path: Option<&Path>) -> usize
 
 /// The number of names that the ways to both parents share.
 fn shared_len(one: Option<&Path>, other: Option<&Path>) -> usize
-    ensures { result ≡ length (common (parent (names_in one.entry)) (parent (names_in other.entry))) }
+    ensures { result ≡ length (common (parent (or_root one.entry)) (parent (or_root other.entry))) }
 {
     let most = way_len(one).min(way_len(other));
     match (one, other) {
@@ -72,15 +41,15 @@ pub(crate) fn trunk_len(call: &Call) -> usize
 {
     match targets_of(call) {
         Targets::No => 0,
-        Targets::One(target) => way_len(spelled(target)),
-        Targets::Two(old, new) => shared_len(spelled(old), spelled(new)),
+        Targets::One(target) => way_len(target_path(target)),
+        Targets::Two(old, new) => shared_len(target_path(old), target_path(new)),
     }
 }
 
 /// The next name of a leg along this path.
 pub(crate) fn next_name(path: Option<&Path>, ahead: Ahead) -> Option<&str>
-    requires { IsPlace (names_in path) ahead.place }
-    ensures { option_map (λ name. name.now) result ≡ name_on (names_in path.entry) ahead }
+    requires { IsPlace (or_root path) ahead.place }
+    ensures { option_map (λ name. name.now) result ≡ name_on (or_root path.entry) ahead }
 {
     if ahead.is_empty() {
         return None;
@@ -90,9 +59,9 @@ pub(crate) fn next_name(path: Option<&Path>, ahead: Ahead) -> Option<&str>
 
 /// The position after the name at this one.
 pub(crate) fn place_after(path: Option<&Path>, place: Place) -> Place
-    requires place { IsPlace (names_in path) place }
-    requires name { IsSome (slice_get (names_in path) place.depth) }
-    ensures place { IsPlace (names_in path.entry) result }
+    requires place { IsPlace (or_root path) place }
+    requires name { IsSome (slice_get (or_root path) place.depth) }
+    ensures place { IsPlace (or_root path.entry) result }
     ensures depth { result.depth ≡ place.depth + 1 }
 {
     let Some(path) = path else { unreachable!() };

@@ -8,7 +8,7 @@ ghost use Rattle.ll_path.specs.Name.{IsName};
 ghost use Rattle.ll_seq.specs.Effects.{resized};
 ghost use Rattle.ll_node.specs.Slot.{renamed};
 ghost use Rattle.ll_node.specs.Refusals.{insert_refusals, missing, rename_refusals, len_refusals};
-ghost use Rattle.ll_node.specs.Lent.{unmarked, emptied_in, filled, named_in, unnamed_in, vacated};
+ghost use Rattle.ll_node.specs.Lent.{unmarked, emptied_in, filled, named_in, unnamed_in, vacant, vacated};
 
 use crate::Slot;
 use ll_rights::{Errno, Kind};
@@ -35,6 +35,16 @@ fn wants_memory(done: Result<(), Errno>) -> Result<(), AllocError>
 }
 
 impl Held {
+    /// Returns the contents of a vacant slot. Takes no memory.
+    pub fn vacant(alloc: Global) -> Held
+        ensures { result ≡ vacant }
+    {
+        Held {
+            inode: 0,
+            node: Slot::new(alloc, Kind::Reg),
+        }
+    }
+
     /// Removes the client's mark, if it is here.
     pub(crate) fn unmark(&mut self, client: u64)
         ensures { self.new ≡ unmarked client self.old }

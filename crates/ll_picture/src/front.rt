@@ -2,8 +2,8 @@
 
 use crate::scene::{Branch, Spot};
 use ll_journal::{Position, Stand};
-use ll_path::{Path, Target};
-use ll_seq::{Targets, targets_of};
+use ll_path::Path;
+use ll_seq::{Targets, target_path, targets_of};
 use ll_steps::World;
 use std::alloc::{AllocError, Global};
 use std::fmt;
@@ -46,13 +46,6 @@ impl<'a> Front<'a> {
     }
 }
 
-fn path_of(target: &Target) -> Option<&Path> {
-    match target {
-        Target::Good(path) => Some(path),
-        Target::Bad(_) => None,
-    }
-}
-
 /// A directory that a walk marks: on which branch, its inode, its path, and how many bars below the client's line the
 /// mark is drawn, which is a step lower than that of the directory from which the walk came there.
 #[derive(Clone, Copy)]
@@ -90,8 +83,8 @@ impl<'a> Way<'a> {
         };
         let (first, second) = match targets_of(call) {
             Targets::No => (None, None),
-            Targets::One(target) => (path_of(target), None),
-            Targets::Two(old, new) => (path_of(old), path_of(new)),
+            Targets::One(target) => (target_path(target), None),
+            Targets::Two(old, new) => (target_path(old), target_path(new)),
         };
         Some(Way { first, second, at })
     }

@@ -28,6 +28,10 @@ abbrev pub is_exclusive : Creation → Bool
 is_exclusive Exclusive = true
 is_exclusive _ = false
 
+abbrev pub target_path : Target → Option Path
+target_path (Good path) = Some path
+target_path (Bad word) = None
+
 -- the path of an argument. For a word that is no path, which is refused before this matters, the root
 abbrev pub path_of : Target → Path
 path_of (Good path) = path

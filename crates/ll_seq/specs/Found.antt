@@ -1,6 +1,7 @@
 -- What a walk finds for a call's paths, and when that is right. Cited by contracts between crates alone. own
-use Rattle.std.specs.Prelude.{◌≡◌, ℕ, Bool, false, List, [], ◌∷◌, Option, None, option_map, option_and_then, slice_get}
-use Rattle.std.specs.Prelude.{nat_lt, nat_le}
+use Rattle.std.specs.Prelude.{◌≡◌, ℕ, Bool, false, List, [], ◌∷◌, Option, Some, None}
+use Rattle.std.specs.Prelude.{nat_lt, nat_le, option_map, option_and_then, slice_get}
+use Rattle.std.specs.Borrow.{Bor}
 use Rattle.std.specs.Option.{option_map_or}
 use Rattle.std.specs.Ordering.{nat_cmp}
 use Rattle.ll_rights.specs.declared.errno.Errno.{Errno}
@@ -19,6 +20,11 @@ use Rattle.ll_seq.specs.declared.found.Spot.{Spot}
 use Rattle.ll_seq.specs.declared.found.There.{There}
 use Rattle.ll_seq.specs.declared.targets.Targets.{Targets}
 use Rattle.ll_seq.specs.declared.targets.Targets.TheVariants.{No, One, Two}
+
+-- the path. None means the root
+abbrev pub or_root : Option (Bor Path) → Path
+or_root None = []
+or_root (Some path) = path.now
 
 abbrev pub words_of : Targets → List Target
 words_of No = []

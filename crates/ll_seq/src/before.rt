@@ -2,7 +2,6 @@
 
 ghost use Rattle.std.specs.Prelude.{◌≡◌, [], None, slice_get};
 ghost use Rattle.ll_rights.specs.Errno.{refuse};
-ghost use Rattle.ll_path.specs.Path.{is_root};
 ghost use Rattle.ll_seq.specs.Call.{path_of, first_path, second_path};
 ghost use Rattle.ll_seq.specs.CallParts.{existence_refusals};
 ghost use Rattle.ll_seq.specs.Stages as stages;
@@ -14,7 +13,7 @@ ghost use Rattle.ll_seq.specs.Stages.{early_refusals};
 
 use crate::found::{Found, Spot};
 use crate::refusals::{first, refuse};
-use crate::targets::{Targets, targets_of};
+use crate::targets::{Targets, names_root, targets_of};
 use crate::{Call, ClientRecord};
 use ll_path::{Path, Target};
 use ll_rights::Errno;
@@ -83,15 +82,6 @@ fn number_refusal(caller: &ClientRecord, call: &Call) -> Option<Errno>
         Call::Stat(_) | Call::Exec(_) | Call::Unlink(_) | Call::Rmdir(_) => None,
         Call::Rename(..) | Call::RenameNoreplace(..) | Call::Exchange(..) | Call::Link(..) => None,
         Call::Ruleset(_) | Call::Spawn | Call::Connect => None,
-    }
-}
-
-fn names_root(target: &Target) -> bool
-    ensures { result ≡ is_root (path_of target.now) }
-{
-    match target {
-        Target::Good(path) => path.is_root(),
-        Target::Bad(_) => true,
     }
 }
 

@@ -41,4 +41,4 @@ pub use number_map::NumberMap;
 pub use refusals::{first, no_directory};
 pub use reply::{Entry, Reply, Status};
 pub use rules::Rules;
-pub use targets::{Targets, targets_of};
+pub use targets::{Targets, first_path, names_root, second_path, target_path, targets_of};

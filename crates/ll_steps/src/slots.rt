@@ -15,21 +15,16 @@ use ll_rights::limits::TREE_CLIENTS;
 use ll_seq::ROOT;
 use std::alloc::{AllocError, Global};
 
-/// Returns the contents of a vacant slot. Takes no memory.
-fn vacant(alloc: Global) -> Held
-    ensures { result ≡ lent.vacant }
-{
-    Held {
-        inode: 0,
-        node: Slot::new(alloc, Kind::Reg),
-    }
-}
-
 /// Holds what is lent to one step, which needs at most four slots.
 pub(crate) type Hands = [Held; 4];
 
 pub(crate) fn new_hands(alloc: Global) -> Hands {
-    [vacant(alloc), vacant(alloc), vacant(alloc), vacant(alloc)]
+    [
+        Held::vacant(alloc),
+        Held::vacant(alloc),
+        Held::vacant(alloc),
+        Held::vacant(alloc),
+    ]
 }
 
 /// The slots of a new tree. Errors: memory ran out.
@@ -45,7 +40,7 @@ pub(crate) fn new_slots(alloc: Global, nodes: usize) -> Result<Vec<Held>, AllocE
         node: Slot::new(alloc, Kind::Dir),
     })?;
     for _ in 1..count {
-        slots.push(vacant(alloc))?;
+        slots.push(Held::vacant(alloc))?;
     }
     Ok(slots)
 }

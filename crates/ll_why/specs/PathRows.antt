@@ -2,9 +2,8 @@
 use Rattle.std.specs.Prelude.{◌≡◌, ℕ, List, [], ◌∷◌, ◌++◌, Option, Some, None, option_to_list}
 use Rattle.std.specs.List.{flat_map}
 use Rattle.ll_path.specs.Path.{Path}
-use Rattle.ll_path.specs.declared.target.Target.{Target}
-use Rattle.ll_path.specs.declared.target.Target.TheVariants.{Good, Bad}
 use Rattle.ll_rules.specs.Layer.{Layer}
+use Rattle.ll_seq.specs.Call.{target_path}
 use Rattle.ll_seq.specs.declared.call.Call.{Call}
 use Rattle.ll_seq.specs.declared.call.Call.TheVariants.{Make, Open, Read, Write, Ftruncate, Close, Truncate, ReadDir}
 use Rattle.ll_seq.specs.declared.call.Call.TheVariants.{Stat, Exec, Unlink, Rmdir, Rename, RenameNoreplace, Exchange}
@@ -32,10 +31,6 @@ AreRows s domain style (path ∷ paths) text =
 -- the text has a line for each path appended
 abbrev pub AddsRows : State → List Layer → RowStyle → List Path → (old new : List ℕ) → Type 0
 AddsRows s domain style paths old new = (rows : List ℕ) × AreRows s domain style paths rows × (new ≡ old ++ rows)
-
-abbrev pub target_path : Target → Option Path
-target_path (Good path) = Some path
-target_path (Bad word) = None
 
 -- the path of the node that the call creates, if any
 abbrev pub made_path : Call → Option Path

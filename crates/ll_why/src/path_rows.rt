@@ -3,14 +3,13 @@
 ghost use Rattle.std.specs.Prelude.{◌≡◌, ◌∷◌, [], IfOk, OnOk, option_map, option_to_list, string_bytes};
 ghost use Rattle.ll_why.specs.PathRows.{AddsRows, AreRows, made_path, made_paths, paths_or_nodes, row_in};
 
-use crate::paths::target_path;
 use crate::rights_json::{path_json, profile_json};
 use crate::table::row_text;
 use crate::{RightsAt, rights_at};
 use ll_path::Path;
 use ll_plain::Plain;
 use ll_rules::Domain;
-use ll_seq::Call;
+use ll_seq::{Call, target_path};
 use std::alloc::{AllocError, Global};
 
 /// How the rights at a path are written.

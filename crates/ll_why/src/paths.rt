@@ -1,54 +1,20 @@
 //! The nodes that a call needs rights on, as texts.
 
-ghost use Rattle.std.specs.Prelude.{◌≡◌, ◌++◌, IfOk, OnOk, option_map, string_bytes, take};
+ghost use Rattle.std.specs.Prelude.{◌≡◌, ◌++◌, IfOk, OnOk, string_bytes, take};
 ghost use Rattle.ll_decide.specs.Demands.{place_on, set_on};
 ghost use Rattle.ll_path.specs.Path.{path_text};
-ghost use Rattle.ll_seq.specs.Call.{first_path, path_of, second_path};
+ghost use Rattle.ll_seq.specs.Found.{or_root};
 ghost use Rattle.ll_why.specs.Reasons.{chain_of};
-ghost use Rattle.ll_why.specs.Names.{or_root, parted};
-ghost use Rattle.ll_why.specs.PathRows.{target_path};
+ghost use Rattle.ll_why.specs.Names.{parted};
 ghost use Rattle.ll_why.specs.Told.{asked_line, node_text, path_on, seat_text};
 
 use crate::Asks;
 use crate::text::{concat, rights_line};
 use ll_decide::{Demands, On, Place};
-use ll_path::{Path, Target};
+use ll_path::Path;
 use ll_rights::Access;
-use ll_seq::{Call, Targets, targets_of};
+use ll_seq::{Call, first_path, second_path};
 use std::alloc::{AllocError, Global};
-
-/// Returns the path that the word spells, or None for a word that is no path: it counts as the root.
-pub(crate) fn target_path(target: &Target) -> Option<&Path>
-    ensures path { option_map (λ p. p.now) result ≡ target_path target.now }
-    ensures root { or_root result ≡ path_of target.now }
-{
-    match target {
-        Target::Good(path) => Some(path),
-        Target::Bad(_) => None,
-    }
-}
-
-// Returns the call's first path. None means the root.
-fn first_path(call: &Call) -> Option<&Path>
-    ensures { or_root result ≡ first_path call.now }
-{
-    match targets_of(call) {
-        Targets::No => None,
-        Targets::One(target) => target_path(target),
-        Targets::Two(old, _) => target_path(old),
-    }
-}
-
-// Returns the call's second path, or its first if it has only one. None means the root.
-fn second_path(call: &Call) -> Option<&Path>
-    ensures { or_root result ≡ second_path call.now }
-{
-    match targets_of(call) {
-        Targets::No => None,
-        Targets::One(target) => target_path(target),
-        Targets::Two(_, new) => target_path(new),
-    }
-}
 
 /// Returns the path of this `On`: its node's, or its directory's. None means the root.
 pub(crate) fn path_on(call: &Call, on: On) -> Option<&Path>

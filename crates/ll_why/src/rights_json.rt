@@ -3,7 +3,7 @@
 ghost use Rattle.std.specs.Prelude.{◌≡◌, ◌++◌, codes, map, IfOk, OnOk, string_bytes, take};
 ghost use Rattle.std.specs.List.{enumerate_from, flat_map, join_by};
 ghost use Rattle.ll_path.specs.Path.{path_text};
-ghost use Rattle.ll_why.specs.Names.{or_root};
+ghost use Rattle.ll_seq.specs.Found.{or_root};
 ghost use Rattle.ll_why.specs.RightsJson.{grants_fields, grants_json, kind_json, new_json, node_json, nowhere_json};
 ghost use Rattle.ll_why.specs.RightsJson.{path_json, profile_json, rule_json, ruled_json, there_json};
 

@@ -3,7 +3,7 @@ use Rattle.std.specs.Borrow.{Bor}
 use Rattle.std.specs.Iterator.{Drains, YieldsFirstRef}
 use Rattle.ll_path.specs.Path.{Path, common, parent}
 use Rattle.ll_seq.specs.State.{Name}
-use Rattle.ll_journal.specs.Seated.{names_in}
+use Rattle.ll_seq.specs.Found.{or_root}
 use Rattle.ll_journal.proofs.Ahead.{common_less, common_nothing, length-common_parents, length-parent}
 use Rattle.ll_journal.proofs.way.shared_len.Goals as goal
 
@@ -19,10 +19,10 @@ all_given (name ∷ names) left ran =
 
 pub count-requires-clause-fits : goal.count-requires-clause-fits
 count-requires-clause-fits c =
-    let way = length-parent (names_in c.args.one) in
+    let way = length-parent (or_root c.args.one) in
     let is = c.way_len.ensures.len in
     let short = c.way_len.ensures.short in
-    let one = ap (λ o. length (names_in o)) c.in-Some-Some.is-0 in
+    let one = ap (λ o. length (or_root o)) c.in-Some-Some.is-0 in
     let less = common_less c.in-Some-Some.one.now c.in-Some-Some.other.now in
     let all = ap length c.common.ensures in
     inl (omega (arith, way, is, short, one, less, all))
@@ -31,15 +31,15 @@ pub returns-in-Some-Some : goal.returns-in-Some-Some
 returns-in-Some-Some c =
     let ran = c.count.ensures.ran in
     let many = ran.2 ∙ all_given ran.0 c.common.result ran.1 in
-    let both : c.common.result ≡ common (names_in c.args.one) (names_in c.args.other) =
-    c.common.ensures ∙ sym (λ i. common (names_in (c.in-Some-Some.is-0 i)) (names_in (c.in-Some-Some.is-1 i))) in
-    let most : c.min-most.result ≡ min (length (parent (names_in c.args.one)))
-    (length (parent (names_in c.args.other))) =
+    let both : c.common.result ≡ common (or_root c.args.one) (or_root c.args.other) =
+    c.common.ensures ∙ sym (λ i. common (or_root (c.in-Some-Some.is-0 i)) (or_root (c.in-Some-Some.is-1 i))) in
+    let most : c.min-most.result ≡ min (length (parent (or_root c.args.one)))
+    (length (parent (or_root c.args.other))) =
     c.min-most.ensures ∙ (λ i. min (c.way_len.ensures.len i) (c.way_len-2.ensures.len i)) in
     c.min.ensures ∙ (λ i. min ((many ∙ ap length both) i) (most i))
-    ∙ sym (length-common_parents (names_in c.args.one) (names_in c.args.other))
+    ∙ sym (length-common_parents (or_root c.args.one) (or_root c.args.other))
 
 pub returns-in_default : goal.returns-in_default
 returns-in_default c =
-    let way = parent (names_in c.args.one) in
-    sym (ap length (ap (λ o. common way (parent (names_in o))) c.in_default.is-1 ∙ common_nothing way))
+    let way = parent (or_root c.args.one) in
+    sym (ap length (ap (λ o. common way (parent (or_root o))) c.in_default.is-1 ∙ common_nothing way))

@@ -2,7 +2,7 @@ use Rattle.std.proofs.Common.{◌≡◌, ◌∷◌, [], codes, ap, ◌∙◌, Li
 use Rattle.std.specs.List.{concat, enumerate_from, flat_map, join_by}
 use Rattle.std.proofs.lemmas.Result.{IfOk-weaker}
 use Rattle.ll_why.specs.declared.grants.Ruled.{Ruled}
-use Rattle.ll_why.specs.Names.{or_root}
+use Rattle.ll_seq.specs.Found.{or_root}
 use Rattle.ll_why.specs.Quoted.{json_names}
 use Rattle.ll_why.specs.RightsJson.{ruled_json}
 use Rattle.ll_why.proofs.rights_json.grants_fields.Goals as goal

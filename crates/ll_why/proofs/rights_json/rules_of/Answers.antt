@@ -2,7 +2,7 @@ use Rattle.std.proofs.Common.{◌≡◌, ◌+◌, ◌++◌, ◌∷◌, add-one, 
 use Rattle.std.specs.List.{enumerate_from, flat_map}
 use Rattle.std.proofs.lemmas.List.{append-nil, drop_all}
 use Rattle.ll_why.specs.declared.grants.Ruled.{Ruled}
-use Rattle.ll_why.specs.Names.{or_root}
+use Rattle.ll_seq.specs.Found.{or_root}
 use Rattle.ll_why.specs.RightsJson.{ruled_json}
 use Rattle.ll_why.proofs.TextGrowth.{came}
 use Rattle.ll_why.proofs.rights_json.rules_of.Goals as goal

@@ -1,6 +1,6 @@
 use Rattle.std.proofs.Common.{◌≡◌, ◌++◌, drop, map, string_bytes}
 use Rattle.std.specs.List.{enumerate_from, flat_map}
-use Rattle.ll_why.specs.Names.{or_root}
+use Rattle.ll_seq.specs.Found.{or_root}
 use Rattle.ll_why.specs.RightsJson.{ruled_json}
 use Rattle.ll_why.proofs.rights_json.rules_of.Given as goal
 
