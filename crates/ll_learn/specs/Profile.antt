@@ -30,7 +30,7 @@ abbrev pub comment : (Origin → List ℕ) → Option Origin → List ℕ
 comment note None = []
 comment note (Some entry) = concat (codes "# " ∷ note entry ∷ [])
 
--- a rule: an empty line, a comment on the first entry that needs it, and its keys
+-- a rule: an empty line, a comment on an entry that needs it, and its keys
 abbrev pub rule_text : (Origin → List ℕ) → List ℕ → LearnedRule → List ℕ
 rule_text note name rule = concat (
     codes "\n" ∷ comment note rule.needed_by ∷ codes "[[profile." ∷ name ∷ codes ".layer.rule]]\npath = "

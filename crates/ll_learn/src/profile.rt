@@ -21,7 +21,7 @@ pub struct LearnedRule {
     pub inode: u64,
     pub path: Path,
     pub rights: Access,
-    /// The first entry that needs one of the rights.
+    /// An entry that needs one of the rights.
     pub needed_by: Option<Origin>,
 }
 

@@ -52,7 +52,7 @@ fn earlier(first: Option<Origin>, second: Origin) -> Origin
     }
 }
 
-// Returns the earlier of the first entry so far and the one, if any, that needs this right on the inode.
+// Returns the earlier of the first entry so far and one, if any, that needs this right on the inode.
 fn with_need(
     alloc: Global,
     draft: &Draft,
@@ -73,7 +73,7 @@ fn with_need(
     }
 }
 
-// Returns the first entry that needs one of the rights of the rule on the inode.
+// Returns the first of the entries that the rule's rights on the inode are needed by, one for each right.
 fn first_need(
     alloc: Global,
     draft: &Draft,

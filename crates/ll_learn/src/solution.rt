@@ -111,6 +111,36 @@ pub fn least_draft(alloc: Global, needs: &Needs, scope: &Scope) -> Result<Draft,
     Ok(draft)
 }
 
+// Reports whether no rule could be further down the ask's path than one on inode `out`: no node there is of the cut.
+fn is_lowest(held: &[bool], out: u64, asked: &Asked) -> bool {
+    let mut lowest = None;
+    for inode in &asked.inodes {
+        if (*inode as usize) < held.len() {
+            lowest = Some(*inode);
+        }
+    }
+    lowest == Some(out)
+}
+
+// Reports whether the ask isn't granted without the rule on inode `out`, and no rule further down could grant it.
+fn is_forced(held: &[bool], out: u64, right: Right, asked: &Asked) -> bool
+    ensures { result ≡ true → is_granted (without out (is_at held.now)) right asked.now ≡ false }
+{
+    is_lowest(held, out, asked) && !is_granted_without(held, out, right, asked)
+}
+
+// Returns the first ask that isn't granted without the rule on inode `out`, and that none further down could grant.
+fn first_forced(held: &[bool], out: u64, right: Right, asks: &[Asked]) -> Option<Need>
+    ensures { IfSome result (IsNeed (without out (is_at held.now)) right asks.now []) }
+{
+    for asked in asks {
+        if is_forced(held, out, right, asked) {
+            return Some(Need::Asks(asked.origin));
+        }
+    }
+    None
+}
+
 // Returns the first ask that isn't granted without the rule on inode `out`.
 fn first_ungranted(held: &[bool], out: u64, right: Right, asks: &[Asked]) -> Option<Need>
     ensures some { IfSome result (IsNeed (without out (is_at held.now)) right asks.now []) }
@@ -122,6 +152,18 @@ fn first_ungranted(held: &[bool], out: u64, right: Right, asks: &[Asked]) -> Opt
         }
     }
     None
+}
+
+// Returns an ask that isn't granted without the rule on inode `out`: of those that no rule further down could grant the
+// first, or else the first of all.
+fn ungranted(held: &[bool], out: u64, right: Right, asks: &[Asked]) -> Option<Need>
+    ensures some { IfSome result (IsNeed (without out (is_at held.now)) right asks.now []) }
+    ensures none { result ≡ None → list_all (is_granted (without out (is_at held.now)) right) asks.now ≡ true }
+{
+    match first_forced(held, out, right, asks) {
+        Some(need) => Some(need),
+        None => first_ungranted(held, out, right, asks),
+    }
 }
 
 // Returns the first move that gains the right without the rule on inode `out`.
@@ -137,8 +179,9 @@ fn first_gain(held: &[bool], out: u64, right: Right, moves: &[Moved]) -> Option<
     None
 }
 
-/// Returns why the rule on the inode must have the right: the first ask that isn't granted without it, or else the
-/// first move that would gain it. None if the needs are met without it. Errors: memory ran out.
+/// Returns why the rule on the inode must have the right: an ask that isn't granted without it, if possible one that no
+/// rule further down could grant, or else the first move that would gain it. None if the needs are met without it.
+/// Errors: memory ran out.
 pub fn need_of(
     alloc: Global,
     draft: &Draft,
@@ -152,7 +195,7 @@ pub fn need_of(
         → is_met (without inode (has draft.now right)) right needs.now ≡ true) }
 {
     let held = draft.column(alloc, right)?;
-    match first_ungranted(&held, inode, right, &needs.asks) {
+    match ungranted(&held, inode, right, &needs.asks) {
         Some(need) => Ok(Some(need)),
         None => Ok(first_gain(&held, inode, right, &needs.moves)),
     }
