@@ -18,6 +18,7 @@ use crate::wanted::is_allowed;
 use ll_program::Failure;
 use ll_seq::{History, Reply};
 use ll_session::CallReplies;
+use std::alloc::AllocError;
 use std::io::Write;
 
 // Reports whether the reply is as the lesson says, and the call has an entry in the history.
@@ -27,13 +28,24 @@ fn is_learned_from(lesson: &Test, reply: &Reply) -> bool
     lesson.wanted.is_met(reply) && is_allowed(reply)
 }
 
-// Prints a lesson that doesn't get the reply that it says.
+// Appends a lesson from which nothing is learned: it doesn't get the reply that it says, or its call isn't made.
+fn push_unmet(
+    report: &mut Vec<u8>,
+    reporter: &Reporter<'_>,
+    lesson: &Test,
+    reply: &Reply,
+) -> Result<(), AllocError> {
+    reporter.push_shown(report, lesson, false, reply)?;
+    if lesson.wanted.is_met(reply) {
+        report.extend_from_slice(b"a call that isn't made teaches nothing\n")?;
+    }
+    Ok(())
+}
+
+// Prints the same.
 fn tell_unmet<E: Write>(reporter: &Reporter<'_>, lesson: &Test, reply: &Reply, err: &mut E) {
     let mut report = Vec::new(reporter.alloc);
-    if reporter
-        .push_shown(&mut report, lesson, false, reply)
-        .is_ok()
-    {
+    if push_unmet(&mut report, reporter, lesson, reply).is_ok() {
         let _ = err.write_all(report.as_slice());
     }
 }

@@ -6,6 +6,7 @@ ghost use Rattle.ll_rights.specs.declared.limits.TheConstants.{TREE_NODES};
 use crate::check_text::Test;
 use crate::lessons::lesson_line;
 use crate::untaught::Taught;
+use crate::wanted::is_allowed;
 use ll_learn::{Basis, Grant, LearnedProfile, Origin, Trial, why_undenied};
 use ll_path::Path;
 use ll_rights::Right;
@@ -63,9 +64,9 @@ impl Reason<'_> {
     }
 }
 
-// Reports whether the test expects a denial, and there is none.
+// Reports whether the test expects a denial, and the call is made without one.
 fn is_undenied(test: &Test, reply: &Reply) -> bool {
-    test.wanted.is_denial() && !reply.is_denial()
+    test.wanted.is_denial() && is_allowed(reply)
 }
 
 // Prints why a test of this file isn't denied.
