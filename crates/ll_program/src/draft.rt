@@ -26,7 +26,7 @@ pub(crate) fn are_of_one_file(a: &Metadata, b: &Metadata) -> bool {
 }
 
 /// Reports whether what has this path is still this file. A link at the end of the path isn't followed.
-pub(crate) fn is_at(rt: &HostRuntime, path: &str, file: &Metadata) -> io::Result<bool> {
+pub(crate) fn is_file_at(rt: &HostRuntime, path: &str, file: &Metadata) -> io::Result<bool> {
     let there = fs::symlink_metadata(rt, path)?;
     Ok(are_of_one_file(&there, file))
 }
@@ -60,10 +60,11 @@ enum Home {
 }
 
 impl Home {
-    // Returns None if another file came there meanwhile. Whoever may not write a file may not replace it either.
+    // Returns None if another file came there meanwhile. Whoever may not write a file may not replace it either, and
+    // nobody may write a directory.
     fn seen(rt: &HostRuntime, name: &str) -> io::Result<Option<Home>> {
         let found = match fs::metadata(rt, name) {
-            Ok(found) if found.is_file() => found,
+            Ok(found) if found.is_file() || found.is_dir() => found,
             Ok(_) => return Ok(Some(Home::Fixed)),
             Err(error) if error.kind() == ErrorKind::NotFound && !name.is_empty() => {
                 return Ok(Some(Home::Regular(followed(rt, name)?, None)));
@@ -189,7 +190,7 @@ impl<'a> Draft<'a> {
 
     // Reports whether the file with this name is still the draft.
     fn is_at(&self, path: &str) -> io::Result<bool> {
-        is_at(self.rt, path, &self.file.metadata()?)
+        is_file_at(self.rt, path, &self.file.metadata()?)
     }
 
     // Renames the draft over its file, after it is on the disk.

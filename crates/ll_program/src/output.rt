@@ -2,7 +2,7 @@
 
 ghost use Rattle.std.specs.Prelude.{None};
 
-use crate::draft::{Draft, is_at};
+use crate::draft::{Draft, is_file_at};
 use ll_wire::Destination;
 use std::alloc::Global;
 use std::fs::Metadata;
@@ -28,7 +28,7 @@ impl Kept {
 
     // Reports whether it is still there.
     fn is_there(&self, rt: &HostRuntime) -> bool {
-        is_at(rt, self.path.as_str(), &self.file).unwrap_or(false)
+        is_file_at(rt, self.path.as_str(), &self.file).unwrap_or(false)
     }
 }
 
