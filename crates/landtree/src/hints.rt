@@ -5,6 +5,7 @@ ghost use Rattle.std.specs.List.{All};
 ghost use Rattle.landtree.specs.Told.{IsTold};
 
 use crate::given::Given;
+use crate::history_line::{line_at, line_trouble};
 use crate::misfits::Misfit;
 use crate::refusal::refused_text;
 use ll_audit::{Saved, Verdict};
@@ -26,54 +27,6 @@ const DENIALS: usize = 20;
 
 /// The most faults of a policy, and the most bad lines, that are explained.
 const FAULTS: usize = 20;
-
-/// What some editors write before the first line.
-const BYTE_ORDER_MARK: &[u8] = b"\xef\xbb\xbf";
-
-// Returns the line with this number, from 1, without its line feed; no bytes if there is none.
-fn line_at(text: &[u8], number: usize) -> &[u8] {
-    let mut at: usize = 0;
-    for line in text.split(|b| *b == b'\n') {
-        at = at.saturating_add(1);
-        if at == number {
-            return line;
-        }
-    }
-    &[]
-}
-
-// Returns what makes a history's line with this number malformed though it looks well, if that is seen.
-fn line_trouble(text: &[u8], number: usize) -> Option<&'static str> {
-    let line = line_at(text, number);
-    if number == 1 && line.starts_with(BYTE_ORDER_MARK) {
-        return Some("a byte order mark stands before it");
-    }
-    if line.ends_with(b"\r") {
-        return Some("it ends with a carriage return before the line feed");
-    }
-    if number == 1 && is_newer(line) {
-        return Some("the history is of a newer version: this program reads 1 to 3");
-    }
-    let is_last = text.split(|b| *b == b'\n').count() == number;
-    if is_last && !line.is_empty() {
-        return Some("the line feed at its end is missing");
-    }
-    None
-}
-
-// Reports whether a header is of a version that doesn't exist yet.
-fn is_newer(line: &[u8]) -> bool {
-    let Ok(text) = str::from_utf8(line) else {
-        return false;
-    };
-    let Some(rest) = text.strip_prefix("landtree-history ") else {
-        return false;
-    };
-    match rest.split(' ').next() {
-        Some(version) => matches!(version.parse::<u64>(), Ok(4..)),
-        None => false,
-    }
-}
 
 // Reports whether a line may bring a client.
 fn is_coming(line: &[u8]) -> bool {
@@ -299,24 +252,39 @@ impl Hints {
         }
     }
 
-    // Adds what is wrong at a fault of the policy with this name and text.
+    // Appends what is wrong at a fault of the policy with this name and text, and perhaps what to write. Keys and
+    // values may have line feeds.
+    fn push_fault(
+        &mut self,
+        name: &str,
+        text: &str,
+        fault: &PlacedFault<'_>,
+    ) -> Result<(), AllocError> {
+        let told = fault.text(self.alloc)?;
+        let told = shown(self.alloc, told.as_bytes())?;
+        let told = match fault.line(text) {
+            Some(line) => format!(in self.alloc; "{name}:{line}: {told}")?,
+            None => format!(in self.alloc; "{name}: {told}")?,
+        };
+        self.push(told.as_str())?;
+        match fault.advice(self.alloc)? {
+            Some(advice) => {
+                let advice = shown(self.alloc, advice.as_bytes())?;
+                self.push(advice.as_str())
+            }
+            None => Ok(()),
+        }
+    }
+
+    // Adds the same, as long as there is memory.
     fn of_fault(&mut self, name: &str, text: &str, fault: &PlacedFault<'_>) {
-        let Ok(told) = fault.text(self.alloc) else {
-            return;
-        };
-        let _ = match fault.line(text) {
-            Some(line) => match format!(in self.alloc; "{name}:{line}") {
-                Ok(place) => self.push_named(place.as_str(), told.as_str()),
-                Err(_) => Ok(()),
-            },
-            None => self.push_named(name, told.as_str()),
-        };
+        let _ = self.push_fault(name, text, fault);
     }
 
     // Adds all faults of a policy, in their order, and what would be right there; of many only the first.
     fn of_policy(&mut self, given: &Given<'_>) {
         let Ok(text) = str::from_utf8(given.text) else {
-            self.add(&"the policy's bytes are no UTF-8");
+            let _ = self.push_named(given.name, "the bytes are no UTF-8");
             return;
         };
         let Ok(table) = read_document(self.alloc, text) else {
@@ -429,25 +397,21 @@ impl Hints {
         {
             let _ = self.push(told.as_str());
         }
-        if let Some(trouble) = line_trouble(text, number) {
-            self.add(&trouble);
-        }
     }
 
-    // Adds where in this line, which spells no command, something else was expected, and what.
-    fn of_command(&mut self, of: LinesOf, name: &str, text: &[u8], number: usize) {
-        let Ok(
-            Some(
-                Blame {
-                    column,
-                    expected,
-                    meant,
-                },
-            ),
-        ) = explain(self.alloc, of, text, number)
-        else {
-            return;
-        };
+    // Adds the malformed line with this number of a history, and what is wrong with it.
+    fn of_malformed(&mut self, name: &str, text: &[u8], number: usize) {
+        self.of_line(name, text, number);
+        self.add(&line_trouble(text, number));
+    }
+
+    // Adds where in the line with this number something else was expected, and what.
+    fn of_blame(&mut self, name: &str, number: usize, blame: Blame) {
+        let Blame {
+            column,
+            expected,
+            meant,
+        } = blame;
         let told = match meant {
             Some(meant) => {
                 format!(in self.alloc; "{name}:{number}:{column}: {expected}: write {meant}")
@@ -459,13 +423,22 @@ impl Hints {
         }
     }
 
-    /// Adds where in this word, if it spells no command, something else was expected, and what.
-    pub fn of_word(&mut self, command: &str) {
+    // Adds where in this line, which spells no command, something else was expected, and what.
+    fn of_command(&mut self, of: LinesOf, name: &str, text: &[u8], number: usize) {
+        if let Ok(Some(blame)) = explain(self.alloc, of, text, number) {
+            self.of_blame(name, number, blame);
+        }
+    }
+
+    /// Adds where in the word with this number, from 1, if it spells no command, something else was expected, and what.
+    pub fn of_word(&mut self, command: &str, number: usize) {
         let Ok(line) = format!(in self.alloc; "{command}\n") else {
             return;
         };
-        if is_no_command(self.alloc, line.as_bytes(), 0) {
-            self.of_command(LinesOf::Word, "COMMAND", command.as_bytes(), 1);
+        if is_no_command(self.alloc, line.as_bytes(), 0)
+            && let Ok(Some(blame)) = explain(self.alloc, LinesOf::Word, command.as_bytes(), 1)
+        {
+            self.of_blame("COMMAND", number, blame);
         }
     }
 
@@ -524,7 +497,7 @@ impl Hints {
                 self.of_line(name, text, entry.saturating_add(1));
                 self.of_entry(name, text, entry);
             }
-            Verdict::BadLine(line) => self.of_line(name, text, line),
+            Verdict::BadLine(line) => self.of_malformed(name, text, line),
         }
     }
 

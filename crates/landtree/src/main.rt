@@ -6,6 +6,7 @@ mod checks;
 mod commands;
 mod given;
 mod hints;
+mod history_line;
 mod lessons;
 mod misfits;
 mod reasons;

@@ -91,7 +91,7 @@ impl Display for Misfit<'_> {
             ),
             Misfit::NoPath(word) => write!(
                 f,
-                "{word} is no path: / is expected, or / and a name again and again"
+                "'{word}' is no path: / is expected, or / and a name again and again"
             ),
             Misfit::NoProfileName(word) => write!(
                 f,

@@ -184,10 +184,10 @@ impl Hints {
         text: Option<&[u8]>,
     ) {
         if matches!(failure, Failure::CommandLine) {
-            for word in asked.before {
-                self.of_word(word);
+            for (index, word) in asked.before.iter().enumerate() {
+                self.of_word(word, index.saturating_add(1));
             }
-            self.of_word(asked.command);
+            self.of_word(asked.command, asked.before.len().saturating_add(1));
         }
         if let Some(given) = Given::new(options.policy, text, options.profile) {
             self.of_failure(failure, &given);

@@ -5,7 +5,8 @@ ghost use Rattle.ll_embed.specs.Answers.{status_of};
 ghost use Rattle.ll_embed.specs.Buffer.{Comes};
 
 use crate::fault::Fault;
-use ll_policy::{policy_faults, read_document, toml_trouble};
+use ll_policy::{PlacedFault, policy_faults, read_document, toml_trouble};
+use ll_wire::escaped;
 use std::alloc::{AllocError, Global};
 use toml::Table;
 
@@ -19,11 +20,22 @@ pub struct Answer {
     pub text: Vec<u8>,
 }
 
+// Returns what is wrong at this fault, and perhaps what to write in a second line, in printed characters.
+fn told_of(alloc: Global, fault: &PlacedFault<'_>) -> Result<String, AllocError> {
+    let mut told = escaped(alloc, fault.text(alloc)?.as_bytes())?;
+    if let Some(advice) = fault.advice(alloc)? {
+        let advice = escaped(alloc, advice.as_bytes())?;
+        told.push_str("\n")?;
+        told.push_str(advice.as_str())?;
+    }
+    Ok(told)
+}
+
 // Returns what is wrong first with a policy that was read as TOML.
 fn first_in(alloc: Global, table: &Table) -> Result<Option<String>, AllocError> {
     let faults = policy_faults(alloc, table)?;
     match faults.first() {
-        Some(fault) => Ok(Some(fault.text(alloc)?)),
+        Some(fault) => Ok(Some(told_of(alloc, fault)?)),
         None => Ok(None),
     }
 }

@@ -123,28 +123,28 @@ impl PlacedFault<'_> {
         }
     }
 
-    // Returns the rights to write, if rights are at fault.
-    fn advice(&self, alloc: Global, key: &str) -> Result<Option<String>, AllocError> {
-        match (self.fault, self.value_text(key)) {
-            (PolicyFault::BadRights, Some(text)) if text.len() <= ADVISED => {
-                Ok(Some(rights_advice(alloc, text)?))
-            }
+    /// Returns the rights to write, if rights are at fault. The text may have bytes of any kind, as the policy's keys
+    /// and values may. Errors: memory ran out.
+    pub fn advice(&self, alloc: Global) -> Result<Option<String>, AllocError> {
+        let text = match (self.fault, self.key) {
+            (PolicyFault::BadRights, Some(key)) => self.value_text(key),
+            _ => None,
+        };
+        match text {
+            Some(text) if text.len() <= ADVISED => Ok(Some(rights_advice(alloc, text)?)),
             _ => Ok(None),
         }
     }
 
-    /// Returns where the fault is, and what would be right there, in one line or more without a final line feed.
-    /// Errors: memory ran out.
+    /// Returns where the fault is, and what would be right there. The text may have bytes of any kind, as the policy's
+    /// keys and values may. Errors: memory ran out.
     pub fn text(&self, alloc: Global) -> Result<String, AllocError> {
         let place = self.place;
         let Some(key) = self.key else {
             return format!(in alloc; "{place}: a name is expected of 1 to 32 of a-z, 0-9 and -");
         };
         let told = self.key_text(alloc, key)?;
-        match self.advice(alloc, key)? {
-            Some(advice) => format!(in alloc; "{place}: {told}\n{advice}"),
-            None => format!(in alloc; "{place}: {told}"),
-        }
+        format!(in alloc; "{place}: {told}")
     }
 
     /// Returns the fault's line in the policy's text, from 1, if it is found.

@@ -12,7 +12,7 @@ struct Seen<'a> {
     layers: usize,
     /// The lines that follow are the table's own.
     is_inside: bool,
-    /// The header of the table.
+    /// The header of the table, or of the first in a profile without one.
     header: Option<usize>,
 }
 
@@ -49,6 +49,17 @@ fn after_place<'a>(header: &'a str, place: Place<'_>) -> Option<&'a str> {
         Place::Profile(name) => after_profile(header, name),
         Place::Layer(name, _) => after_profile(header, name)?.strip_prefix(".layer"),
         Place::Rule(name, _, _) => after_profile(header, name)?.strip_prefix(".layer.rule"),
+    }
+}
+
+// Reports whether this is the header of a table in the place's profile, which may have no header of its own.
+fn is_in_profile(header: &str, place: Place<'_>) -> bool {
+    match place {
+        Place::Profile(name) => match after_profile(header, name) {
+            Some(rest) => rest.starts_with('.'),
+            None => false,
+        },
+        _ => false,
     }
 }
 
@@ -102,6 +113,8 @@ impl<'a> Seen<'a> {
             if self.is_inside {
                 self.header = Some(line);
             }
+        } else if self.header.is_none() && is_in_profile(header, self.place) {
+            self.header = Some(line);
         }
     }
 
