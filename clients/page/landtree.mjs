@@ -22,6 +22,10 @@ const TOO_SHORT = 5;
 const REPORTS = ['usual', 'quiet', 'verbose', 'tap', 'junit', 'json'];
 const TABLES = ['usual', 'layers', 'json'];
 
+// WebAssembly would cut a number to 64 bits. One of more is out of every bound, as is the highest.
+const HIGHEST = 2n ** 64n - 1n;
+const bitsOf = (number) => (BigInt(number) === BigInt.asUintN(64, BigInt(number)) ? BigInt(number) : HIGHEST);
+
 // A server may have unpacked the file already.
 function unpacked(bytes) {
   const [first, second] = new Uint8Array(bytes);
@@ -49,21 +53,22 @@ export class Landtree {
 
   #take(size) {
     const at = this.#module.landtree_take(BigInt(size));
-    if (at === 0n) throw new Error('no memory');
+    if (at === 0n) throw Object.assign(new Error('no memory'), { code: 'ENOMEM' });
     return at;
   }
 
-  // Lends a text, as its place and its length.
-  #lend(text) {
+  // Lends a text: appends its place and its length.
+  #lend(text, lent) {
     const bytes = typeof text === 'string' ? encoder.encode(text) : text;
     const at = this.#take(bytes.length);
+    lent.push([at, BigInt(bytes.length)]);
     new Uint8Array(this.#module.memory.buffer, Number(at), bytes.length).set(bytes);
-    return [at, BigInt(bytes.length)];
   }
 
   #ask(name, numbers, texts) {
-    const lent = texts.map((it) => this.#lend(it));
+    const lent = [];
     try {
+      for (const it of texts) this.#lend(it, lent);
       for (;;) {
         const status = this.#module[name](...numbers, ...lent.flat(), this.#out, BigInt(this.#room), this.#length);
         const length = Number(new DataView(this.#module.memory.buffer).getBigUint64(Number(this.#length), true));
@@ -71,9 +76,9 @@ export class Landtree {
           const text = new Uint8Array(this.#module.memory.buffer, Number(this.#out), length).slice();
           return { status, bytes: text, text: decoder.decode(text) };
         }
+        const out = this.#take(length);
         this.#module.landtree_give(this.#out);
-        this.#room = length;
-        this.#out = this.#take(length);
+        [this.#out, this.#room] = [out, length];
       }
     } finally {
       for (const [at] of lent) this.#module.landtree_give(at);
@@ -82,12 +87,12 @@ export class Landtree {
 
   // The history's room of 0 is as much as the script may need.
   #numbers({ level = 0, nodes = 4096, history = 0 }) {
-    return [level, nodes, history].map(BigInt);
+    return [level, nodes, history].map(bitsOf);
   }
 
   // The transcript of a script. An empty policy or profile isn't given.
   run({ policy = '', profile = '', script, strict = false, ...numbers }) {
-    return this.#ask('landtree_run', [...this.#numbers(numbers), Number(strict)], [policy, profile, script]);
+    return this.#ask('landtree_run', [...this.#numbers(numbers), Number(Boolean(strict))], [policy, profile, script]);
   }
 
   // The saved history of such a run.
@@ -97,7 +102,7 @@ export class Landtree {
 
   // The report on a file of checks with this name and this text, in one of the forms of REPORTS.
   check({ policy = '', profile = '', name = 'checks', checks, form = 'usual', level = 0, nodes = 4096 }) {
-    const numbers = [BigInt(level), BigInt(nodes), REPORTS.indexOf(form)];
+    const numbers = [bitsOf(level), bitsOf(nodes), REPORTS.indexOf(form)];
     return this.#ask('landtree_check', numbers, [policy, profile, name, checks]);
   }
 
@@ -115,25 +120,25 @@ export class Landtree {
   }
 
   whyEntry(history, number) {
-    return this.#ask('landtree_why_entry', [BigInt(number)], [history]);
+    return this.#ask('landtree_why_entry', [bitsOf(number)], [history]);
   }
 
   // Why a policy's profile gets this answer to the last of its commands, after those before it.
   why({ policy, profile, commands, nodes = 4096 }) {
-    return this.#ask('landtree_why', [BigInt(nodes)], [policy, profile, commands.join('\n')]);
+    return this.#ask('landtree_why', [bitsOf(nodes)], [policy, profile, commands.join('\n')]);
   }
 
   // The rights that a policy's profile is granted at these paths, or without any at the policy's nodes, in one of the
   // forms of TABLES.
   rights({ policy, profile, paths = [], form = 'usual', nodes = 4096 }) {
     const lines = paths.map((it) => `${it}\n`).join('');
-    return this.#ask('landtree_rights', [BigInt(nodes), TABLES.indexOf(form)], [policy, profile, lines]);
+    return this.#ask('landtree_rights', [bitsOf(nodes), TABLES.indexOf(form)], [policy, profile, lines]);
   }
 
   // The least profile for what a client did in a saved history, or a line on why nothing is learned. Numbers of 0 and
   // empty texts aren't given.
   learn({ client = 0, most = 0, never = '', beneath = [], name = '', history }) {
-    return this.#ask('landtree_learn', [BigInt(client), BigInt(most)], [never, beneath.join('\n'), name, history]);
+    return this.#ask('landtree_learn', [bitsOf(client), bitsOf(most)], [never, beneath.join('\n'), name, history]);
   }
 }
 
@@ -143,6 +148,8 @@ export class Landtree {
 const fault = (status, text) => ({ status, bytes: encoder.encode(text), text, isFault: true });
 const WRONG = fault(2, 'landtree: command line\n');
 const NO_FILE = fault(1, 'landtree: file\n');
+const NO_OUTPUT = fault(1, 'landtree: output\n');
+const NO_MEMORY = fault(4, 'landtree: no memory\n');
 
 // What follows an option: each returns the value of a word, and undefined for a wrong one or none. An empty text or a 0
 // stands for none that is given.
@@ -186,10 +193,10 @@ function parse(words, kinds) {
 }
 
 // Reads the policy, if one is given, and puts the program's default of nodes. An empty text would be no policy; one of
-// a line feed is as wrong as an empty file.
+// a line feed is as wrong as an empty file. As a policy `-` isn't standard input.
 function setupOf(read, { policy, abi: level, nodes = 1024, ...options }) {
   if (policy === undefined) return { ...options, level, nodes };
-  const bytes = read(policy);
+  const bytes = read(policy === '-' ? './-' : policy);
   return { ...options, level, nodes, policy: bytes.length > 0 ? bytes : '\n' };
 }
 
@@ -253,16 +260,16 @@ export function answer(tree, read, words) {
     return answerOf(tree, read, parsed.rest, parsed.options);
   } catch (error) {
     if (error.code === undefined) throw error;
-    return NO_FILE;
+    return error.code === 'ENOMEM' ? NO_MEMORY : NO_FILE;
   }
 }
 
-// Makes an instance of the module beside this file. Where that fails, a line says why, and null comes back.
+// Makes an instance of the module beside this file. If that fails, a line says why, and null comes back.
 async function moduleBeside(fs) {
   try {
     return await load(fs.readFileSync(new URL('landtree.wasm.gz', import.meta.url)));
   } catch (error) {
-    fs.writeSync(2, `landtree.wasm.gz: ${error.message}\n`);
+    await write(fs, 2, encoder.encode(`landtree.wasm.gz: ${error.message}\n`));
     return null;
   }
 }
@@ -274,20 +281,46 @@ function usage(fs) {
   return head.map((it) => `${it.replace(/^\/\/ ?/, '')}\n`).join('');
 }
 
-async function main(words) {
-  const fs = await import('node:fs');
-  if (words.includes('--help')) {
-    fs.writeSync(1, usage(fs));
-    return;
+// Writes the bytes, and returns whether all could be written. A pipe that takes none for now is tried again.
+async function write(fs, descriptor, bytes) {
+  for (let done = 0; done < bytes.length; ) {
+    try {
+      const count = fs.writeSync(descriptor, bytes, done);
+      if (count === 0) return false;
+      done += count;
+    } catch (error) {
+      if (error.code !== 'EAGAIN') return false;
+      await new Promise((next) => setTimeout(next, 10));
+    }
   }
-  const tree = await moduleBeside(fs);
-  const read = (name) => fs.readFileSync(name === '-' ? 0 : name);
-  const { status, bytes, isFault = status !== DONE && status !== ENDED } =
-    tree === null ? NO_FILE : answer(tree, read, words);
-  fs.writeSync(isFault ? 2 : 1, bytes);
-  process.exitCode = status;
+  return true;
 }
 
-if (typeof process !== 'undefined' && process.argv?.[1] && import.meta.url.endsWith(process.argv[1].split('/').pop())) {
-  await main(process.argv.slice(2));
+async function answerTo(fs, words) {
+  if (words.includes('--help')) return { status: DONE, bytes: encoder.encode(usage(fs)) };
+  const tree = await moduleBeside(fs);
+  return tree === null ? NO_FILE : answer(tree, (name) => fs.readFileSync(name === '-' ? 0 : name), words);
 }
+
+const isFaulty = ({ status, isFault = status !== DONE && status !== ENDED }) => isFault;
+
+async function main(words) {
+  const fs = await import('node:fs');
+  let told = await answerTo(fs, words);
+  if (!isFaulty(told) && !(await write(fs, 1, told.bytes))) told = NO_OUTPUT;
+  if (isFaulty(told)) await write(fs, 2, told.bytes);
+  process.exitCode = told.status;
+}
+
+// Returns whether node was started with this file, by whatever name. In a browser nothing was.
+async function isStarted() {
+  if (typeof process === 'undefined' || !process.argv?.[1]) return false;
+  try {
+    const fs = await import('node:fs');
+    return fs.realpathSync(process.argv[1]) === fs.realpathSync(new URL(import.meta.url));
+  } catch {
+    return false;
+  }
+}
+
+if (await isStarted()) await main(process.argv.slice(2));

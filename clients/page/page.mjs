@@ -14,8 +14,10 @@ let chosen = -1;
 const given = () => Object.fromEntries(FIELDS.map((id) => [id, at(id).value]));
 const kind = () => KINDS.find((it) => it.checked).value;
 
-// The script's lines, each with its line feed.
-const linesOf = (script) => script.match(/[^\n]*\n|[^\n]+$/g) ?? [];
+// The lines of a text, each with its line feed, also the last.
+const linesOf = (text) => text.replace(/[^\n]$/, '$&\n').match(/[^\n]*\n/g) ?? [];
+// The script of the first so many lines, or of all.
+const scriptOf = (text, count) => linesOf(text).slice(0, count).join('');
 // The objects of an answer that has one on each line.
 const objectsOf = (text) => text.split('\n').slice(0, -1).map((line) => JSON.parse(line));
 
@@ -47,8 +49,7 @@ function answered(ask) {
 // Why the line with this number, from 0, was answered so: it is the last entry of the history of a run up to there.
 function why(number) {
   const it = given();
-  const script = linesOf(it.script).slice(0, number + 1).join('').replace(/\n?$/, '\n');
-  const saved = tree.history({ ...it, script });
+  const saved = tree.history({ ...it, script: scriptOf(it.script, number + 1) });
   if (saved.status !== DONE) return saved.text;
   const entries = saved.text.split('\n').length - 2;
   return tree.whyEntry(saved.bytes, entries).text;
@@ -69,10 +70,9 @@ function rowOfReply(line, reply, number) {
 }
 
 function run(it) {
-  const script = it.script.replace(/([^\n])$/, '$1\n');
-  const told = answered(() => tree.run({ ...it, script }));
+  const told = answered(() => tree.run({ ...it, script: scriptOf(it.script) }));
   const replies = told.text.split('\n').slice(0, -1);
-  const lines = linesOf(script);
+  const lines = linesOf(it.script);
   at('replies').replaceChildren(...replies.map((reply, i) => rowOfReply(lines[i] ?? '', reply, i)));
   at('status').textContent = `${replies.length} replies in ${told.took}`;
   const denied = replies.findIndex((reply) => reply.startsWith('denied'));
@@ -167,8 +167,8 @@ function showLearned(text, name) {
 
 // Learns what the commands need that are under no profile.
 function learn() {
-  const it = { ...given(), profile: '' };
-  const saved = tree.history(it);
+  const it = given();
+  const saved = tree.history({ ...it, profile: '', script: scriptOf(it.script) });
   if (saved.status !== DONE) return showLearned(saved.text.replace(/^landtree: /, ''), '');
   const name = freeName(it.policy);
   const told = tree.learn({ name, history: saved.bytes });
