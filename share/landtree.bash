@@ -32,7 +32,14 @@ _landtree() {
         mapfile -t COMPREPLY < <(compgen -d -- "$word")
         return
         ;;
-    --nodes | --history | --from | --to | --profile | --port | --workers | --connections | --idle | --room | --client | --name | --never | --most) return ;;
+    --history)
+        # Of learn it is a file, of other commands a number.
+        if [ "${COMP_WORDS[1]}" = learn ]; then
+            mapfile -t COMPREPLY < <(compgen -f -- "$word")
+        fi
+        return
+        ;;
+    --nodes | --from | --to | --profile | --port | --workers | --connections | --idle | --room | --client | --name | --never | --most) return ;;
     esac
     case ${COMP_WORDS[1]} in
     run) options="--nodes --abi --history --policy --profile --save --strict --comments --explain --terse --help" ;;

@@ -702,6 +702,17 @@ class Programs(Case):
         tree = run(save=self.room / "no-such-folder/history")
         self.assertEqual(tree.close(), 1)
 
+    def test_no_hint_on_the_probe(self):
+        tree = run()
+        tree.close()
+        error = self.raises(ProgramFault, (0, ""), tree.client.stat, "/")
+        self.assertEqual((error.hints, str(error)), ("", "the program has ended with status 0"))
+        tree = run()
+        tree._transport.send("stat")
+        self.assertEqual(tree._transport.close().hints.count("\n"), 0)
+        error = self.raises(ProgramFault, (0, ""), tree.client.stat, "/")
+        self.assertTrue(error.hints.startswith("  -:2:"), error.hints)
+
     def test_saves_its_calls_alone(self):
         with run(save=self.room / "history", nodes=7) as tree:
             tree.client.make("reg", "/f")

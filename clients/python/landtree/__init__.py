@@ -18,9 +18,10 @@ programs are recorded and confined on Linux.
 """
 
 from .client import Client, Descriptor
-from .commands import Commands, ExportOptions, LearnOptions
+from .commands import Commands
 from .directories import Snapshot, snapshot
 from .errors import BadReply, Denied, Ended, Fault, LandtreeError, OpeningRefused, ProgramFault, Refused, TimedOut
+from .options import ExportOptions, LearnOptions
 from .policy import Layer, Policy, Rule
 from .policy_text import load_policy, read_policy
 from .session import Landtree

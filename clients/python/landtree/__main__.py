@@ -8,10 +8,11 @@ import sys
 from pathlib import Path
 from typing import Callable, Dict, List, Optional, Sequence, Tuple
 
-from .commands import Commands, ExportOptions, LearnOptions
+from .commands import Commands
 from .confine import NOT_CONFINED, NOT_RUN, NOT_THERE, NO_ENTRY, become, own_environment, prepare
 from .errors import Fault, LandtreeError, ProgramFault
 from .lint import lint
+from .options import ExportOptions, LearnOptions
 from .tour import Tour, TourOptions, need_program, tour
 from .trace import convert, record
 from .trace.conversion import names_beside
@@ -27,10 +28,7 @@ def say(text: str) -> None:
 
 
 def told(fault: LandtreeError) -> str:
-    if isinstance(fault, ProgramFault):
-        hints = [it.strip() for it in fault.hints.splitlines() if not it.startswith("landtree: ")]
-        return ": ".join(it for it in [fault.line.replace("landtree: ", "", 1), *hints[:1]] if it)
-    return str(fault)
+    return ": ".join(fault.reasons[:2]) if isinstance(fault, ProgramFault) else str(fault)
 
 
 # ---- the commands, each of which returns its status

@@ -11,13 +11,12 @@ import os
 import re
 import subprocess
 from dataclasses import dataclass, field
-from typing import Any, Dict, Iterable, List, Optional, Sequence, Union
+from typing import Any, Dict, Iterable, List, Optional
 
 from .errors import LandtreeError, ProgramFault, TimedOut
 from .exported import Exported, exported_of
-from .values import TREE_NODES, Rights, RightsLike
-
-File = Union[str, "os.PathLike[str]"]
+from .options import ExportOptions, File, LearnOptions
+from .values import TREE_NODES, Rights
 
 ASKED = re.compile(r"  +asked on (\S+) \((at|old|new)\): (\S+)")
 CHANGE = re.compile(r"  +no layer would deny it with layer (\d+)(?: and a rule on (\S+)| handling): (\S+)")
@@ -125,42 +124,6 @@ class Learned:
 
 
 @dataclass(frozen=True)
-class ExportOptions:
-    """The options of `landtree export --as json`."""
-
-    root: Optional[str] = None
-    also: Sequence[str] = ()
-    deny: Sequence[str] = ()
-    checked: Sequence[File] = ()
-    follow: bool = False
-    exact: bool = False
-    best_effort: bool = False
-
-    def words(self) -> List[str]:
-        words = [f"--root={self.root}"] if self.root is not None else []
-        words += [f"--also={it}" for it in self.also] + [f"--checked={os.fspath(it)}" for it in self.checked]
-        words += [f"--deny={','.join(self.deny)}"] if self.deny else []
-        flags = {"--follow": self.follow, "--exact": self.exact, "--best-effort": self.best_effort}
-        return words + [word for word, is_set in flags.items() if is_set]
-
-
-@dataclass(frozen=True)
-class LearnOptions:
-    """The options of `landtree learn`: the profile's name, rights that it never grants, directories whose files share
-    a rule, and the most rules."""
-
-    name: str = "learned"
-    never: RightsLike = Rights.NONE
-    beneath: Sequence[str] = ()
-    most: Optional[int] = None
-
-    def words(self) -> List[str]:
-        never = Rights.of(self.never)
-        words = [f"--name={self.name}", *(f"--beneath={it}" for it in self.beneath)]
-        return words + ([f"--never={never}"] if never else []) + ([f"--most={self.most}"] if self.most else [])
-
-
-@dataclass(frozen=True)
 class Commands:
     """The program, by its path or as the PATH has it. `timeout` is how many seconds a command may last.
 
@@ -256,9 +219,22 @@ class Commands:
 
 
 def fault_of(ended: "subprocess.CompletedProcess[str]") -> LandtreeError:
-    """Returns the error for a command that ended with a fault."""
-    lines = (ended.stderr or ended.stdout).splitlines() or [""]
-    return ProgramFault(ended.returncode, lines[0], "\n".join(lines[1:]))
+    """Returns the error for a command that ended with a fault.
+
+    Its line is the one of standard error that begins with `landtree: `, or else the first. If there are hints alone,
+    which are indented, it is the first line of standard output. The hints are all other lines of the same stream, but
+    all of standard error in the last case.
+    """
+    lines = ended.stderr.splitlines()
+    faults = [place for place, it in enumerate(lines) if it.startswith("landtree: ")]
+    if faults:
+        line = lines.pop(faults[0])
+    elif lines and not lines[0].startswith("  "):
+        line = lines.pop(0)
+    else:
+        line, *more = ended.stdout.splitlines() or [""]
+        lines = lines or more
+    return ProgramFault(ended.returncode, line, "\n".join(lines))
 
 
 def granted_of(it: Dict[str, Any]) -> Granted:
@@ -293,8 +269,13 @@ def checked_of(report: str, told: str) -> Checked:
 
 
 def unlearned_of(ended: "subprocess.CompletedProcess[str]") -> LandtreeError:
-    """Returns the error for a profile that wasn't learned. The first test that failed is one line."""
+    """Returns the error for a profile that wasn't learned. The first test that failed is one line.
+
+    A reason before the line `landtree: command line`, as that there are too many rules, is the error's line too.
+    """
     lines = ended.stderr.splitlines()
     if len(lines) > 2 and lines[1].startswith("expected ") and lines[2].startswith("got "):
         return ProgramFault(ended.returncode, f"{lines[0]}: {lines[1]}, {lines[2]}", "\n".join(lines[3:]))
+    if lines[1:] == ["landtree: command line"]:
+        return ProgramFault(ended.returncode, *lines)
     return fault_of(ended)

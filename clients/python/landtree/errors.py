@@ -4,7 +4,7 @@ from __future__ import annotations
 
 import errno
 import os
-from typing import Any, NamedTuple, Optional, Sequence, Tuple
+from typing import Any, List, NamedTuple, Optional, Sequence, Tuple
 
 from .values import Rights
 
@@ -113,6 +113,12 @@ class ProgramFault(LandtreeError):
     def __init__(self, status: Optional[int], line: str, hints: str = "") -> None:
         super().__init__(status, line, hints)
         self.status, self.line, self.hints = status, line, hints
+
+    @property
+    def reasons(self) -> List[str]:
+        """The line and the hints, for a message that names the program already."""
+        lines = [self.line.replace("landtree: ", "", 1), *self.hints.splitlines()]
+        return [it.strip() for it in lines if it and not it.startswith("landtree: ")]
 
     def __str__(self) -> str:
         what = "session has ended" if self.status is None else f"program has ended with status {self.status}"

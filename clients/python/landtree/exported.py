@@ -49,7 +49,7 @@ def exported_of(text: str) -> Exported:
     """Returns what a text of an export says. Any other text is a `Fault`, also one of a later version."""
     try:
         return read(json.loads(text))
-    except (ValueError, TypeError, KeyError, AttributeError) as error:
+    except (ValueError, TypeError, KeyError, AttributeError, OverflowError, RecursionError) as error:
         raise Fault(f"the export isn't as docs/export.schema.json has it: {error}") from None
 
 

@@ -11,9 +11,9 @@ import os
 from dataclasses import dataclass
 from typing import Any, Callable, Iterable, List, Tuple, Union
 
-from .commands import LearnOptions
 from .errors import LandtreeError
-from .values import Rights
+from .options import LearnOptions
+from .values import LEARNED_RULES, Rights
 
 VERSION = 1
 ENDED, TOO_SHORT = 3, 5
@@ -70,8 +70,11 @@ class LibraryFault(LandtreeError):
     """Raised if there is no answer. `status` is that of the library, `words` say why."""
 
     def __init__(self, status: int, words: str) -> None:
-        super().__init__(words.strip())
+        super().__init__(status, words)
         self.status, self.words = status, words
+
+    def __str__(self) -> str:
+        return self.words.strip()
 
 
 class Library:
@@ -102,6 +105,8 @@ class Library:
     def learn(self, history: Text, options: LearnOptions = LearnOptions(), client: int = 0) -> Answer:
         """Learns the least profile for what a client did in a saved history: by default the second that connects, or
         the only one. Where nothing is learned, the answer has one line on why."""
+        if options.most == 0:
+            raise ValueError(f"the most rules are 1 to {LEARNED_RULES}")  # The library takes 0 for the most.
         never, beneath = Rights.of(options.never), "\n".join(options.beneath)
         texts = [encoded(it) for it in (str(never) if never else "", beneath, options.name, history)]
         numbers = [ctypes.c_uint64(client), ctypes.c_size_t(options.most or 0)]

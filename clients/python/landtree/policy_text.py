@@ -5,7 +5,7 @@ from __future__ import annotations
 import os
 import re
 from pathlib import Path
-from typing import Any, Dict, List, Tuple, Type, Union
+from typing import Any, Dict, List, Optional, Tuple, Type, Union
 
 from .directories import Node
 from .errors import Fault, shown
@@ -14,6 +14,7 @@ from .values import FILE_BYTES, KINDS, NAME_BYTES, PATH_BYTES, PATH_NAMES, Right
 
 NAME = re.compile(f"[!-.0-~]{{1,{NAME_BYTES}}}")
 DATA = re.compile(f"([0-9a-f]{{2}}){{0,{FILE_BYTES}}}")
+BYTE_ORDER_MARK = "\ufeff"
 Table = Dict[str, Any]
 
 
@@ -32,15 +33,19 @@ def read_policy(file: Union[str, "os.PathLike[str]"]) -> Policy:
 
 
 def load_policy(text: str) -> Policy:
-    """Returns the policy that a text has, of version 1 or 2. What is wrong is a `Fault` that names the place."""
+    """Returns the policy that a text has, of version 1 or 2. What is wrong is a `Fault` that names the place.
+
+    Python reads TOML 1.0, and the program 1.1. So this refuses a few policies that the program takes: those with a line
+    feed or a last comma in an inline table, or with the escape `\\e` or `\\xHH`.
+    """
     document = parsed(text)
     keys = {"version": (int, True), "abi": (int, False), "node": (list, False), "profile": (dict, False)}
     need_keys("the policy", document, keys)
     version, abi = document["version"], document.get("abi")
     if version not in (1, 2):
-        raise Fault(f"version = {version}: 1 or 2 is expected")
+        raise Fault(f"version = {number_text(version)}: 1 or 2 is expected")
     if (version == 2) is not (abi in (1, 2, 3)) or (version == 1 and abi is not None):
-        raise Fault(f"abi = {abi}: 1, 2 or 3 is expected in version 2, and none in version 1")
+        raise Fault(f"abi = {number_text(abi)}: 1, 2 or 3 is expected in version 2, and none in version 1")
     policy = Policy(abi=3 if abi is None else abi)
     policy.nodes = [node_of(f"node {place}", it) for place, it in numbered("node", document.get("node", []))]
     for name, profile in document.get("profile", {}).items():
@@ -54,9 +59,16 @@ def parsed(text: str) -> Table:
     except ImportError:
         raise Fault("reading policies needs Python 3.11 or later") from None
     try:
-        return tomllib.loads(text)
+        return tomllib.loads(text[1:] if text.startswith(BYTE_ORDER_MARK) else text)
     except tomllib.TOMLDecodeError as error:
-        raise Fault(f"no TOML: {error}") from None
+        raise Fault(f"no TOML 1.0, all that Python's reader knows: {error}") from None
+    except (ValueError, RecursionError):
+        raise Fault("Python can't read it: a number is too long, or arrays are nested too deep") from None
+
+
+def number_text(number: Optional[int]) -> str:
+    """Returns a number for a message. Python writes none of over 4,300 digits."""
+    return str(number) if number is None or abs(number) < 1 << 64 else "a number over 64 bits"
 
 
 def numbered(place: str, array: Any) -> List[Tuple[int, Table]]:

@@ -7,8 +7,10 @@ those of the copy then.
 
 from __future__ import annotations
 
+import contextlib
 import os
 import shutil
+import signal
 import subprocess
 import sys
 import tempfile
@@ -16,15 +18,18 @@ from dataclasses import dataclass
 from pathlib import Path
 from typing import List, Optional, Sequence, Set, Tuple
 
-from .commands import Commands, Learned, LearnOptions
+from .commands import Commands, Learned
 from .confine import own_environment
 from .errors import Fault, ProgramFault
+from .exported import DENIABLE
 from .names import encoded
+from .options import LearnOptions
 from .trace.conversion import Converted, convert
 from .trace.files import write_all
 from .trace.log import Call, calls, descriptor_of, string_of
 from .trace.reader import TRACED
-from .trace.recording import Recording, need_strace, record, status_of, strace_words
+from .trace.recording import Recording, need_recordable, need_strace, record, strace_words
+from .trace.runs import run_traced
 from .values import Rights
 
 PACKAGE = Path(__file__).resolve().parent.parent
@@ -61,14 +66,15 @@ class TourOptions:
 
 def tour(words: Sequence[str], options: TourOptions, commands: Commands = Commands()) -> Tour:
     """Makes the tour of a program. What can't be done is a `Fault`, before the program is run if that can be."""
+    here = os.getcwd()
     need_program(commands)
     need_strace()
-    folder = new_folder(options.folder)
-    here = os.getcwd()
+    need_fit(options, here)
+    need_recordable(words, [here, *options.changes], own_environment())
     with tempfile.TemporaryDirectory(prefix="landtree-", dir=outside(here)) as room:
-        copy = None if options.in_place else copied(here, Path(room) / "copy", folder)
-        log, never = folder / "run.log", Rights.of(options.learn.never) & Rights.REFER
-        recorded = record(words, log, options.changes, never=never, environment=own_environment())
+        copy = None if options.in_place else copied(here, Path(room) / "copy")
+        folder = new_folder(options.folder)
+        recorded = recorded_in(folder, words, options)
         converted = convert(recorded.log)
         learned = learn(folder, converted, options.learn, commands)
         policy = folder / "policy.toml"
@@ -86,20 +92,55 @@ def need_program(commands: Commands) -> None:
         raise Fault(f"{os.fspath(commands.program)}: {error.strerror}") from None
 
 
+def need_fit(options: TourOptions, here: str) -> None:
+    """Raises `Fault` for options and names of directories that would fail after the program was run."""
+    options.learn.need_fit()
+    for it in options.deny:
+        if it not in DENIABLE:
+            raise Fault(f"--deny: {it!r}: some of {', '.join(DENIABLE)} are expected")
+    if os.path.lexists(options.folder):
+        raise Fault(f"{options.folder}: it is there already; --to names another directory")
+    folder = os.path.realpath(options.folder)
+    if not is_clean(folder):
+        raise Fault(f"{folder}: its path isn't UTF-8, or has a control character; --to names another directory")
+    if "=/" in here and not options.in_place:
+        raise Fault(f"{here}: no copy can stand for a path with =/; --in-place needs none")
+
+
+def is_clean(path: str) -> bool:
+    """Says whether the program takes a file with this path: its comments have the names of files of checks."""
+    try:
+        return all(byte >= 0x20 and byte != 0x7F for byte in path.encode("utf-8"))
+    except UnicodeEncodeError:
+        return False
+
+
 def new_folder(folder: Path) -> Path:
     try:
         folder.mkdir()
-    except FileExistsError:
-        raise Fault(f"{folder}: it is there already; --to names another directory") from None
     except OSError as error:
         raise Fault(f"{folder}: {error.strerror}") from None
     return folder.resolve()
 
 
+def recorded_in(folder: Path, words: Sequence[str], options: TourOptions) -> Recording:
+    """Records the program into a new folder, which is removed if nothing is recorded."""
+    try:
+        never = Rights.of(options.learn.never) & Rights.REFER
+        recorded = record(words, folder / "run.log", options.changes, never=never, environment=own_environment())
+    except BaseException:
+        with contextlib.suppress(OSError):  # It isn't empty.
+            folder.rmdir()
+        raise
+    if recorded.signal is not None:
+        raise Fault(f"{recorded.log}: {signal.Signals(recorded.signal).name} came, so no profile is learned")
+    return recorded
+
+
 def outside(directory: str) -> str:
     """Returns a place for temporary files that isn't in a directory."""
     for place in (tempfile.gettempdir(), "/tmp", "/var/tmp"):
-        if os.path.isdir(place) and not is_in(os.path.realpath(place), directory):
+        if os.path.isdir(place) and "=/" not in place and not is_in(os.path.realpath(place), directory):
             return place
     raise Fault(f"{directory}: there is no place for a copy outside of it; --in-place needs none")
 
@@ -113,16 +154,14 @@ def moved(text: str, directory: str, copy: Optional[Path]) -> str:
     return f"{copy}{text[len(directory):]}" if copy and is_in(text, directory) else text
 
 
-def copied(directory: str, copy: Path, but: Path) -> Path:
-    """Copies a directory as it is, with times and links, but without the folder of the tour."""
+def copied(directory: str, copy: Path) -> Path:
+    """Copies a directory as it is, with times and links."""
     need_small(directory)
     words = ["cp", "-a", "--reflink=auto", "--", directory, os.fspath(copy)]
     ended = subprocess.run(words, stderr=subprocess.PIPE, check=False)
     if ended.returncode:
         line = ended.stderr.decode("utf-8", "replace").splitlines()[:1]
         raise Fault(f"{directory}: it can't be copied; --in-place needs no copy: {''.join(line)}")
-    if is_in(os.fspath(but), directory):
-        shutil.rmtree(copy / but.relative_to(directory), ignore_errors=True)
     return copy
 
 
@@ -145,7 +184,7 @@ def learn(folder: Path, converted: Converted, options: LearnOptions, commands: C
         return commands.learn([checks], nodes, options)
     except ProgramFault as fault:
         again = f"`landtree learn {checks} --policy {nodes}` learns from this run again"
-        raise Fault(f"{checks}: no profile is learned: {fault.line}; {again}") from None
+        raise Fault(f"{checks}: no profile is learned: {'; '.join([*fault.reasons, again])}") from None
 
 
 def run_confined(
@@ -163,7 +202,7 @@ def run_confined(
     call += [f"--map={encoded(here)}={copy}"] if copy else []
     all_words = [*strace_words(log, [*TRACED, ENFORCED]), *call, "--", *(moved(it, here, copy) for it in words)]
     environment = {name: moved(value, here, copy) for name, value in own_environment().items()}
-    return status_of(all_words, directory=os.fspath(copy or here), environment=environment)
+    return run_traced(all_words, directory=os.fspath(copy or here), environment=environment).status
 
 
 def refused(log: Path) -> Set[Tuple[str, ...]]:

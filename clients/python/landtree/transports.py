@@ -18,6 +18,8 @@ from .errors import BadReply, Ended, LandtreeError, ProgramFault, TimedOut, show
 # was dropped.
 GRACE = 2.0
 ERROR_BYTES = 65_536
+# How the hint on the first line of a session begins, which is the package's own probe (session.py).
+HINT_ON_PROBE = "  -:1:"
 
 
 class Program:
@@ -66,12 +68,16 @@ class Program:
         return True
 
     def _told(self) -> Tuple[str, str]:
-        """Returns the last line on standard error that isn't indented, and the lines after it."""
+        """Returns the last line on standard error that isn't indented, and the lines after it.
+
+        What is said of the package's own probe is left out: nobody else has written that line.
+        """
         size = self._errors.seek(0, os.SEEK_END)
         self._errors.seek(max(0, size - ERROR_BYTES))
         lines = self._errors.read().decode("utf-8", "replace").splitlines()
         if size > ERROR_BYTES:
             lines = lines[1:]  # The first one is cut.
+        lines = [it for it in lines if not it.startswith(HINT_ON_PROBE)]
         after = max((place for place, line in enumerate(lines, 1) if not line.startswith("  ")), default=0)
         return "".join(lines[:after][-1:]), "\n".join(lines[after:])
 

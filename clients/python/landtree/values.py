@@ -14,6 +14,7 @@ PATH_BYTES = 4_095
 PATH_NAMES = 64
 DIRECTORY_NAMES = 1_024
 TREE_NODES = 4_096
+LEARNED_RULES = 256
 # The longest reply is the list of a full directory of longest names, each after a space, and a line feed.
 REPLY_BYTES = len("names") + DIRECTORY_NAMES * (1 + NAME_BYTES) + 1
 

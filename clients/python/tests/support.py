@@ -18,6 +18,7 @@ from landtree import Fault, landlock  # noqa: E402
 # The program, which test_package.py sets.
 PROGRAM = os.environ.get("LANDTREE_PROGRAM", str(TOP / "crates/landtree/out/landtree"))
 LONGEST = 120
+ENVIRONMENT = {**os.environ, "PYTHONPATH": str(PACKAGE), "PYTHONDONTWRITEBYTECODE": "1"}
 
 
 def can_trace():
@@ -66,7 +67,16 @@ class Case(unittest.TestCase):
 
     def run_module(self, *words, **how):
         """Runs the package's commands as a user does."""
-        environment = {**os.environ, "PYTHONPATH": str(PACKAGE), "PYTHONDONTWRITEBYTECODE": "1"}
-        how = {"cwd": self.room, "env": environment, "timeout": LONGEST, **how}
+        how = {"cwd": self.room, "env": ENVIRONMENT, "timeout": LONGEST, **how}
         how = {"capture_output": True, "text": True, "stdin": subprocess.DEVNULL, **how}
         return subprocess.run([sys.executable, "-m", "landtree", *map(os.fspath, words)], check=False, **how)
+
+    def signalled_module(self, number, *words, **how):
+        """Sends a command a signal once its program has written a line, and returns its status and its last line."""
+        call = [sys.executable, "-m", "landtree", *map(os.fspath, words)]
+        pipes = {"stdout": subprocess.PIPE, "stderr": subprocess.PIPE, "stdin": subprocess.DEVNULL}
+        with subprocess.Popen(call, **{"cwd": self.room, "env": ENVIRONMENT, "text": True, **pipes, **how}) as child:
+            child.stdout.readline()
+            child.send_signal(number)
+            _, told = child.communicate(timeout=LONGEST)
+        return child.returncode, told.splitlines()[-1]

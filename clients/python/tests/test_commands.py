@@ -72,6 +72,24 @@ class Results(Case):
         self.assertEqual(caught.exception.status, 2)
         self.assertTrue(caught.exception.line.startswith(f"{file}:1:"), caught.exception.line)
 
+    def test_where_the_fault_is_told(self):
+        history = self.put("bad.hist", "landtree-history 1 nodes 64\n1 conect = ok\n")
+        fault = self.fault_of(self.commands.why_entry, history, 1)
+        self.assertEqual((fault.status, fault.line), (3, "bad line 2"))
+        self.assertEqual(fault.hints.splitlines()[0], f"  {history}:2: 1 conect = ok")
+        file = self.put("c.check", "[a]\n")
+        fault = self.fault_of(self.commands.check, [file], POLICY, "nope")
+        self.assertEqual((fault.status, fault.line), (2, "landtree: command line"))
+        first, second = fault.hints.splitlines()[:2]
+        self.assertEqual((first, second), (f"no test in [a] of {file}", f"  the policy {POLICY} has no profile nope"))
+        fault = self.fault_of(self.commands.audit, self.room / "none")
+        self.assertEqual((fault.status, fault.line), (1, "landtree: file"))
+
+    def fault_of(self, call, *words):
+        with self.assertRaises(ProgramFault) as caught:
+            call(*words)
+        return caught.exception
+
     def test_audit(self):
         history = self.put("h", "landtree-history 1 nodes 64\n1 connect = ok\n1 make reg /f = ok\n")
         self.assertEqual(self.commands.audit(history), Audited("legal", 2))
@@ -150,14 +168,15 @@ class Results(Case):
         self.assertEqual((fault.status, fault.line), (2, "landtree: command line"))
         fault = self.fault([CHECKS], POLICY, LearnOptions(most=1))
         self.assertEqual((fault.status, fault.line), (2, "3 rules, 1 may be: --most 256, or --beneath DIR"))
+        fault = self.fault([CHECKS], POLICY, LearnOptions(most=0))
+        self.assertEqual((fault.status, fault.line), (2, "landtree: command line"))
+        self.assertIn("0 is not in 1..=256", fault.hints)
         fault = self.fault([CHECKS], POLICY, LearnOptions(never="read_dir"))
         line = f"{CHECKS}:4: list /src: no layer that may be learned lets this pass"
         self.assertEqual((fault.status, fault.line), (3, line))
 
     def fault(self, *words):
-        with self.assertRaises(ProgramFault) as caught:
-            self.commands.learn(*words)
-        return caught.exception
+        return self.fault_of(self.commands.learn, *words)
 
     def test_learning_from_what_must_be_denied_alone(self):
         checks = self.put("c.check", "open r /f = denied ..\n")
@@ -198,7 +217,9 @@ class Exports(Case):
             with self.subTest(new), self.assertRaises(Exception) as caught:
                 exported_of(self.TEXT.replace(old, new))
             self.assertEqual(type(caught.exception).__name__, "Fault", new)
-        for text in ("", "[]", "null", "{}", self.TEXT[:-1], self.TEXT[: self.TEXT.index("[{")] + "[]}"):
+        deep, endless = "[" * 100_000, self.TEXT.replace('"abi": 3', '"abi": Infinity')
+        cut = [self.TEXT[:-1], self.TEXT[: self.TEXT.index("[{")] + "[]}"]
+        for text in ("", "[]", "null", "{}", *cut, deep, endless):
             with self.assertRaises(Exception) as caught:
                 exported_of(text)
             self.assertEqual(type(caught.exception).__name__, "Fault", text)

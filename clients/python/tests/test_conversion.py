@@ -130,11 +130,16 @@ class Files(Case):
 
     def test_what_is_no_recording(self):
         fault = f"{self.recorded()}.before: it isn't what `record` writes"
-        for text in ("", "{", "[]", "{}", "null", '{"form": 1}', "\x00", "\u00e9"):
+        for text in ("", "{", "[]", "{}", "null", '{"form": 1}', "\x00", "\u00e9", "[" * 100_000, "9" * 5000):
             self.put("run.log.before", text)
             self.wants_fault(fault, convert, self.log)
-        for changed in ({"form": 2}, {"entries": {"/": []}}, {"entries": []}, {"began": "x"}, {"directories": 3}):
+        for changed in ({"form": 2}, {"entries": []}, {"began": "x"}, {"began": 10**400}, {"directories": 3}):
             self.recorded(**changed)
+            self.wants_fault(fault, convert, self.log)
+        keys = [["dir", None, it] for it in ([1], [1, 2, 3], "ab", 1)]
+        kinds = [["x", None, None], [["dir"], None, None], ["sym", None, None], ["reg", "a", None]]
+        for entry in ([], *keys, *kinds):
+            self.recorded(entries={"/w": entry})
             self.wants_fault(fault, convert, self.log)
 
     def test_saved_and_loaded(self):

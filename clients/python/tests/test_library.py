@@ -1,5 +1,6 @@
 """The C library in this process."""
 
+import pickle
 import threading
 import unittest
 from pathlib import Path
@@ -19,6 +20,20 @@ def example(name):
 def worked(name, file):
     """A file of the worked example with this name, which says what the program prints."""
     return (TOP / "worked" / name / file).read_bytes()
+
+
+class Words(Case):
+    def test_faults_can_be_pickled(self):
+        fault = LibraryFault(2, "why\n")
+        copy = pickle.loads(pickle.dumps(fault))
+        self.assertEqual((type(copy), vars(copy)), (LibraryFault, {"status": 2, "words": "why\n"}))
+        self.assertEqual((str(copy), str(fault)), ("why", "why"))
+
+    def test_no_rules(self):
+        # The C function takes 0 for the most rules that there may be.
+        library = Library.__new__(Library)
+        with self.assertRaisesRegex(ValueError, "1 to 256"):
+            library.learn("", LearnOptions(most=0))
 
 
 @unittest.skipUnless(BUILT.exists(), "tools/library hasn't built the library")

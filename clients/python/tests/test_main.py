@@ -1,12 +1,27 @@
 """The commands as a user types them: what they write, and how they end."""
 
 import os
+import signal
+import subprocess
+import sys
 
-from tests.support import PACKAGE, PROGRAM, TOP, Case, needs_landlock, needs_strace
+from tests.support import ENVIRONMENT, LONGEST, PACKAGE, PROGRAM, TOP, Case, needs_landlock, needs_strace
 
 from landtree import Commands, Layer, Rights, Rule, load_policy
+from landtree.trace.recording import strace_words
+from landtree.trace.runs import Run
 
 POLICY = TOP / "examples/build-service.toml"
+# Runs the package's commands under as many layers as a process may have; each denies make_char.
+UNDER_LAYERS = """
+import contextlib, sys
+from landtree import landlock
+from landtree.__main__ import main
+with contextlib.suppress(OSError):
+    while True:
+        landlock.restrict_self(landlock.create_ruleset(1 << 6))
+sys.exit(main())
+"""
 
 
 class Words(Case):
@@ -60,6 +75,10 @@ class Words(Case):
         words = ["--policy", nodes, "--most", "1", "--program", PROGRAM]
         said = "landtree: 2 rules, 1 may be: --most 256, or --beneath DIR\n"
         self.assertEqual(self.run_module("learn", checks, *words).stderr, said)
+        words[3] = "0"
+        ended = self.run_module("learn", checks, *words)
+        self.assertEqual((ended.returncode, ended.stdout), (2, ""))
+        self.assertIn("0 is not in 1..=256", ended.stderr)
 
     def test_bytes_that_steer_a_terminal(self):
         ended = self.run_module("lint", "a\x1b[2J\nb")
@@ -185,11 +204,40 @@ class Recording(Case):
         said = "landtree: truncate: of all rights refer alone can be kept from a program while it is recorded\n"
         self.assertEqual((ended.returncode, ended.stderr, (self.room / "two").exists()), (125, said, False))
 
+    @needs_landlock
+    def test_never_refer_under_all_layers(self):
+        ended = subprocess.run(
+            [sys.executable, "-c", UNDER_LAYERS, "record", "--never", "refer", "--", "touch", "ran"],
+            cwd=self.room, env=ENVIRONMENT, capture_output=True, text=True, timeout=LONGEST, check=False,
+        )
+        said = "landtree: the kernel enforces no layer on the program: a process has 16 at most\n"
+        self.assertEqual((ended.returncode, ended.stderr), (125, said))
+        self.assertEqual(list(self.room.iterdir()), [])
+
     def test_an_interrupt_is_for_the_program(self):
         script = "trap 'exit 5' INT; kill -INT 0; sleep 9"
         ended = self.record("--", "sh", "-c", script, start_new_session=True)
         self.assertEqual(ended.returncode, 5, ended.stderr)
         self.assertEqual(self.convert().returncode, 0)
+
+    def test_it_is_asked_to_end(self):
+        # The shell's child gets the signal too. Without it, this would last ten minutes.
+        for number, status in {signal.SIGTERM: -15, signal.SIGHUP: -1}.items():
+            log = f"{int(number)}.log"
+            words = ["record", "--to", log, "--", "sh", "-c", "echo up; sleep 600; true"]
+            said = f"landtree: {log}: the program has ended with status {status}"
+            self.assertEqual(self.signalled_module(number, *words), (128 + number, said))
+            self.assertEqual(self.run_module("convert", log).returncode, 0)
+        script = "trap 'sleep 0.3; echo end >end; exit 5' TERM; echo up; sleep 600 & wait"
+        self.assertEqual(self.signalled_module(signal.SIGTERM, "record", "--", "sh", "-c", script)[0], 5)
+        self.assertEqual((self.room / "end").read_text(), "end\n")
+
+    def test_it_is_asked_to_end_early(self):
+        run = Run()
+        run.handle(signal.SIGTERM, None)
+        with subprocess.Popen([*strace_words(self.room / "log"), "sleep", "600"]) as strace:
+            run.wait_for(strace)
+        self.assertEqual((run.status, run.signal), (-15, signal.SIGTERM))
 
     def test_a_locale_and_signals_as_they_were(self):
         environment = {"PATH": os.environ["PATH"], "PYTHONPATH": str(PACKAGE)}
@@ -197,70 +245,3 @@ class Recording(Case):
         self.assertEqual(sorted(ended.stdout.split()), sorted(f"{k}={v}" for k, v in environment.items()))
         ended = self.record("--to", "two.log", "--", "grep", "SigIgn", "/proc/self/status")
         self.assertEqual(ended.stdout, f"SigIgn:\t{0:016x}\n")
-
-
-@needs_strace
-@needs_landlock
-class Touring(Case):
-    def setUp(self):
-        super().setUp()
-        self.home = self.room / "home"
-        self.home.mkdir()
-
-    def tour(self, *words):
-        return self.run_module("try", "--program", PROGRAM, *words, cwd=self.home)
-
-    def test_a_program(self):
-        (self.home / "f").write_text("one\n")
-        ended = self.tour("--", "sh", "-c", "cat f; echo two >f; echo x >new")
-        self.assertEqual((ended.returncode, ended.stdout), (0, "one\none\n"), ended.stderr)
-        last = ended.stderr.splitlines()[-2:]
-        both = "without a layer the program has ended with status 0, under the profile with 0"
-        self.assertEqual(last[0], f"landtree: {both}")
-        self.assertTrue(last[1].startswith(f"landtree: {self.home}/landtree.try/policy.toml: the profile has "))
-        names = ["confined.log", "nodes.toml", "policy.toml", "run.check", "run.log", "run.log.before"]
-        self.assertEqual(sorted(it.name for it in (self.home / "landtree.try").iterdir()), names)
-        self.assertEqual(sorted(it.name for it in self.home.iterdir()), ["f", "landtree.try", "new"])
-
-    def test_the_second_run_changes_nothing_here(self):
-        ended = self.tour("--", "sh", "-c", "echo x >>log")
-        self.assertEqual(ended.returncode, 0, ended.stderr)
-        self.assertEqual((self.home / "log").read_text(), "x\n")
-
-    def test_what_would_be_denied(self):
-        # The second run reads what the first one hasn't.
-        (self.home / "secret").write_text("key\n")
-        script = f"test -e {self.room}/again && cat secret; echo >{self.room}/again"
-        ended = self.tour("--", "sh", "-c", script)
-        self.assertEqual(ended.returncode, 3, ended.stderr)
-        self.assertIn("landtree: the second run was in a copy of the working directory; ", ended.stderr)
-        denied = [it for it in ended.stderr.splitlines() if "would be denied" in it]
-        self.assertTrue(any(it.endswith(": execve /usr/bin/cat: EACCES") for it in denied), ended.stderr)
-        self.assertTrue(any(it.endswith(f": openat {self.room}/again: EACCES") for it in denied), ended.stderr)
-
-    def test_in_place(self):
-        ended = self.tour("--in-place", "--", "sh", "-c", "cat /dev/null")
-        self.assertEqual(ended.returncode, 0, ended.stderr)
-
-    def test_a_directory_that_is_there(self):
-        (self.home / "landtree.try").mkdir()
-        ended = self.tour("--", "touch", "ran")
-        text = "landtree: landtree.try: it is there already; --to names another directory\n"
-        self.assertEqual((ended.returncode, ended.stderr), (125, text))
-        self.assertFalse((self.home / "ran").exists())
-
-    def test_no_program(self):
-        ended = self.run_module("try", "--program", self.room / "none", "--", "touch", "ran", cwd=self.home)
-        said = f"landtree: {self.room}/none: No such file or directory\n"
-        self.assertEqual((ended.returncode, ended.stderr), (125, said))
-        self.assertEqual(list(self.home.iterdir()), [])
-
-    def test_what_cannot_be_learned(self):
-        text = '#!/bin/sh\n[ "$1" = --version ] && exit\necho "run.check:1: why" >&2\nexit 3\n'
-        self.put("bad", text).chmod(0o755)
-        ended = self.run_module("try", "--program", self.room / "bad", "--", "touch", "ran", cwd=self.home)
-        checks, nodes = (f"{self.home}/landtree.try/{it}" for it in ("run.check", "nodes.toml"))
-        again = f"`landtree learn {checks} --policy {nodes}` learns from this run again"
-        said = f"landtree: {checks}: no profile is learned: run.check:1: why; {again}\n"
-        self.assertEqual((ended.returncode, ended.stderr), (125, said))
-        self.assertFalse((self.home / "landtree.try/policy.toml").exists())

@@ -5,7 +5,7 @@ from pathlib import PurePosixPath
 
 from tests.support import PROGRAM, TOP, Case
 
-from landtree import Commands, Layer, Policy, Rights, Rule, load_policy, read_policy
+from landtree import Commands, Fault, Layer, Policy, Rights, Rule, load_policy, read_policy
 from landtree.directories import Node
 
 try:
@@ -60,6 +60,23 @@ class Building(Case):
         self.assertEqual(self.rule("$HOME/${n}", "read").path, "/home/me/x%20y")
         for path in ("$none/a", "/a/$", "${"):
             self.assertRaises(ValueError, self.rule, path, "read")
+
+    def test_variables_that_would_widen_a_path(self):
+        policy = Policy(variables={"SUB": "", "ROOT": "/"})
+        layer = policy.layer("build", "all")
+        for path, fault in {
+            "/$SUB": "/$SUB: the variable SUB is empty",
+            "/a${SUB}": "/a${SUB}: the variable SUB is empty",
+            "$SUB/": "$SUB/: the variable SUB is empty",
+            "$ROOT": "$ROOT: its variables make it /, the whole machine",
+            "/$none": "/$none: the variable none isn't set",
+        }.items():
+            with self.assertRaises(ValueError) as caught:
+                policy.allow(layer, path, "read")
+            self.assertEqual(str(caught.exception), fault)
+        self.assertEqual((layer.rules, policy.nodes), ([], []))
+        policy.allow(layer, "/", "read")
+        self.assertEqual(layer.rules, [Rule("/", READ)])
 
     def test_a_group_fits_the_file(self):
         self.assertEqual(self.rule("/f", "read, write", kind="reg").rights, Rights.of("read_file,write_file,truncate"))
@@ -170,6 +187,28 @@ class Reading(Case):
         self.wants_fault(f"{bad}: the text is no UTF-8", read_policy, bad)
         self.wants_fault(f"{self.room}/none: No such file or directory", read_policy, self.room / "none")
         self.wants_fault(f"{self.room}: Is a directory", read_policy, self.room)
+
+    def test_texts_that_python_cannot_read(self):
+        fault = "Python can't read it: a number is too long, or arrays are nested too deep"
+        self.wants(fault, "", "a = " + "[" * 5000)
+        self.wants(fault, "", "version = " + "9" * 5000)
+        for name, text in {"version": "", "abi": "version = 2\n"}.items():
+            with self.assertRaises(Fault) as caught:
+                load_policy(f"{text}{name} = 0x{'f' * 5000}\n")
+            self.assertTrue(str(caught.exception).startswith(f"{name} = a number over 64 bits: "))
+
+    def test_a_byte_order_mark(self):
+        file = self.room / "p.toml"
+        file.write_bytes(b"\xef\xbb\xbfversion = 2\nabi = 1\n[profile.p]\n")
+        self.assertEqual(read_policy(file), Policy(abi=1, profiles={"p": []}))
+        self.assertEqual(Commands(PROGRAM).rights(file, "p"), [])
+
+    def test_later_toml(self):
+        text = 'version = 2\nabi = 3\nnode = [{path = "/f", kind = "reg",}]\n[profile.p]\n'
+        self.assertEqual([it.path for it in Commands(PROGRAM).rights(self.put("p.toml", text), "p")], ["/f"])
+        with self.assertRaises(Fault) as caught:
+            load_policy(text)
+        self.assertTrue(str(caught.exception).startswith("no TOML 1.0, all that Python's reader knows: "))
 
     def test_layers_are_values(self):
         self.assertEqual(Layer(READ), Layer(READ, []))

@@ -2,26 +2,24 @@
 
 from __future__ import annotations
 
-import contextlib
-import functools
 import json
+import operator
 import os
 import re
-import signal
 import subprocess
-import threading
 import time
 from dataclasses import dataclass
 from pathlib import Path
-from typing import Any, Dict, Iterable, Iterator, List, Mapping, Optional, Sequence
+from typing import Any, Dict, Iterable, List, Mapping, Optional, Sequence
 
 from .. import landlock
 from ..confine import program_of
 from ..errors import Fault
-from ..values import Rights
+from ..values import KINDS, Rights
 from .files import write_all
 from .inventory import Entry, Inventory, inventory_of
 from .reader import TRACED
+from .runs import run_traced
 
 FORM = 1
 # From 5.3 on strace has --seccomp-bpf, without which a program that opens many files is ten times slower.
@@ -33,13 +31,17 @@ NOT_THERE, NOT_RUN = 127, 126
 
 @dataclass(frozen=True)
 class Recording:
-    """A log of strace, and what is known of the moment when its program began. `status` is None until it has ended."""
+    """A log of strace, and what is known of the moment when its program began.
+
+    `status` is None until the program has ended. `signal` is the last one that asked this process to end meanwhile.
+    """
 
     log: Path
     words: List[str]
     directory: str
     inventory: Inventory
     status: Optional[int] = None
+    signal: Optional[int] = None
 
     @property
     def before(self) -> Path:
@@ -52,19 +54,21 @@ class Recording:
         data.update(began=self.inventory.began, directories=self.inventory.directories, entries=entries)
         write_all([(self.before, json.dumps(data) + "\n")], replace=True)
 
+    def discard_empty(self) -> None:
+        """Removes the files of a recording without a line, so that they aren't in the way of the next one."""
+        if self.log.stat().st_size == 0:
+            self.log.unlink()
+            self.before.unlink()
+
     @classmethod
     def load(cls, log: "os.PathLike[str] | str") -> "Recording":
         """Reads what `save` has written. Anything else is a `Fault`."""
         before = before_of(Path(log))
         try:
-            data = json.loads(before.read_text(encoding="ascii"))
+            return cls._of(Path(log), json.loads(before.read_text(encoding="ascii")))
         except OSError as error:
             raise Fault(f"{before}: {error.strerror}; `record` makes it beside its log") from None
-        except ValueError:
-            raise Fault(f"{before}: it isn't what `record` writes") from None
-        try:
-            return cls._of(Path(log), data)
-        except (AttributeError, KeyError, TypeError, ValueError):
+        except (AttributeError, KeyError, TypeError, ValueError, OverflowError, RecursionError):
             raise Fault(f"{before}: it isn't what `record` writes") from None
 
     @classmethod
@@ -76,8 +80,14 @@ class Recording:
         return cls(log, [str(it) for it in data["words"]], str(data["directory"]), inventory, data["status"])
 
 
-def loaded_entry(kind: str, link: Optional[str], key: Optional[List[int]]) -> Entry:
-    return Entry(kind, link, (key[0], key[1]) if key else None)
+def loaded_entry(kind: Any, link: Any, key: Any) -> Entry:
+    """Returns an entry as `save` has written it. Anything else is a ValueError or a TypeError."""
+    if kind not in KINDS or not isinstance(link, str if kind == "sym" else type(None)):
+        raise ValueError
+    if key is None:
+        return Entry(kind, link)
+    device, inode = (operator.index(it) for it in key)
+    return Entry(kind, link, (device, inode))
 
 
 def before_of(log: Path) -> Path:
@@ -119,17 +129,19 @@ def record(
 
     `log` is a new file, and a file of its name with `.before` is made beside it. `changes` are the directories whose
     files the program may change: the working directory is always one of them, and so is that of TMPDIR. If nothing can
-    be recorded, this raises `Fault`, and the program isn't run.
+    be recorded, this raises `Fault`, the program isn't run, and no log is left.
+
+    SIGTERM and SIGHUP go to the program and to all whom it has started. The recording ends when they have ended.
     """
     place = Path(log)
     for file in (place, before_of(place)):
         if os.path.lexists(file):
             raise Fault(f"{file}: it is there already")
     need_strace()
-    need_program(words, environment)
-    layer = layer_of(never)
     directory = os.getcwd()
-    inventory = inventory_of(directories_of([directory, *changes], environment), now())
+    directories = need_recordable(words, [directory, *changes], environment)
+    layer = layer_of(never)
+    inventory = inventory_of(directories, now())
     recording = Recording(place, list(words), directory, inventory)
     try:
         recording.save()
@@ -137,14 +149,24 @@ def record(
     except OSError as error:
         raise Fault(f"{place}: {error.strerror}") from None
     recording.inventory.began = now()
-    status = status_of([*strace_words(place), *words], environment=environment, layer=layer)
-    if not place.stat().st_size:
-        place.unlink()
-        recording.before.unlink()
-        raise Fault(f"{place}: strace has logged nothing, so the program wasn't run")
-    ended = Recording(place, recording.words, directory, inventory, status)
+    try:
+        run = run_traced([*strace_words(place), *words], environment=environment, layer=layer)
+        if not place.stat().st_size:
+            raise Fault(f"{place}: strace has logged nothing, so the program wasn't run")
+    except BaseException:
+        recording.discard_empty()
+        raise
+    ended = Recording(place, recording.words, directory, inventory, run.status, run.signal)
     ended.save()
     return ended
+
+
+def need_recordable(
+    words: Sequence[str], changes: Iterable["os.PathLike[str] | str"], environment: Optional[Mapping[str, str]]
+) -> List[str]:
+    """Returns the real directories that a program may change. If one or the program isn't there, that is a `Fault`."""
+    need_program(words, environment)
+    return directories_of(changes, environment)
 
 
 def layer_of(never: Rights) -> Optional[int]:
@@ -157,38 +179,6 @@ def layer_of(never: Rights) -> Optional[int]:
         return landlock.create_ruleset(never.value)
     except OSError as error:
         raise Fault(f"the kernel makes no ruleset for refer: {error.strerror}") from None
-
-
-def status_of(
-    words: Sequence[str],
-    *,
-    directory: Optional[str] = None,
-    environment: Optional[Mapping[str, str]] = None,
-    layer: Optional[int] = None,
-) -> int:
-    """Runs a program to its end, under the layer of a ruleset if there is one, and returns its status.
-
-    An interrupt from the terminal is left to the program.
-    """
-    begin = None if layer is None else functools.partial(landlock.restrict_self, layer)
-    with ignoring_interrupts():
-        # The program has this process's descriptors, as it has under `exec`.
-        ran = subprocess.run(words, cwd=directory, env=environment, preexec_fn=begin, close_fds=False, check=False)
-        return ran.returncode
-
-
-@contextlib.contextmanager
-def ignoring_interrupts() -> Iterator[None]:
-    """Keeps an interrupt from ending this process. Programs that it runs handle interrupts as they did before."""
-    is_main = threading.current_thread() is threading.main_thread()
-    if not is_main or signal.getsignal(signal.SIGINT) in (signal.SIG_IGN, None):
-        yield
-        return
-    before = signal.signal(signal.SIGINT, lambda *_: None)
-    try:
-        yield
-    finally:
-        signal.signal(signal.SIGINT, before)
 
 
 def now() -> float:
