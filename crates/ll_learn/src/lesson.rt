@@ -59,5 +59,6 @@ pub(crate) fn profile_of(
         is_least: is_least(&draft, scope, needs, chains),
         handled: draft.handled,
         rules,
+        inodes: draft.rules.len(),
     })
 }

@@ -44,6 +44,8 @@ pub struct LearnedProfile {
     pub is_least: bool,
     pub handled: Access,
     pub rules: Vec<LearnedRule>,
+    /// The inodes of the cut are below this one, those of nodes made later are not. Hints alone need it.
+    pub inodes: usize,
 }
 
 fn push_byte(text: &mut String, byte: u8) -> Result<(), AllocError>

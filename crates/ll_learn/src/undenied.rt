@@ -143,18 +143,9 @@ impl Needs {
     }
 }
 
-// Returns one more than the greatest inode of the rules.
-fn count_of(profile: &LearnedProfile) -> usize {
-    let mut count: usize = 0;
-    for rule in &profile.rules {
-        count = count.max((rule.inode as usize).saturating_add(1));
-    }
-    count
-}
-
 /// Returns the draft with the profile's rules.
 pub(crate) fn draft_of(alloc: Global, profile: &LearnedProfile) -> Result<Draft, AllocError> {
-    let mut rules = vec![in alloc; Access(0); count_of(profile)]?;
+    let mut rules = vec![in alloc; Access(0); profile.inodes]?;
     for rule in &profile.rules {
         let place = rule.inode as usize;
         if place < rules.len() {
