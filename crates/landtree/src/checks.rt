@@ -16,7 +16,9 @@ ghost use Rattle.ll_commands.specs.Export as exports;
 
 use crate::hints::Hints;
 use crate::misfits::Misfit;
-use ll_check::{CheckInput, NamedText, SharedRunner, check, check_schedules, own_policies};
+use ll_check::{
+    CheckInput, NamedText, SharedRunner, check, check_schedules, own_policies, tell_own_line,
+};
 use ll_commands::{export, export_checked};
 use ll_program::{
     CheckOptions, Checked, Conclusion, ExportOptions, Failure, Late, ReportForm, Sources, named,
@@ -119,24 +121,33 @@ fn policy_paths(alloc: Global, files: &[NamedText<'_>]) -> Result<Vec<String>, F
     }
 }
 
-// Reads the policy at this path.
+// Reads the policy at this path, which a section of these files names.
 fn named_policy<'a, S: Sources>(
     rt: &HostRuntime,
     sources: &S,
+    files: &[NamedText<'_>],
     path: &'a str,
     hints: &mut Hints,
 ) -> Result<NamedText<'a>, Failure>
     ensures source { IfOk result (λ policy. IsPolicySource (S.texts sources.now) (source_of policy)) }
     ensures failure { IfErr result (λ failure. (failure ≡ Failure.File) ⊎ (failure ≡ Failure.NoMemory)) }
 {
-    let text = text_of(rt, sources, "policy", Some(path), hints)?;
-    Ok(NamedText { name: path, text })
+    match text_of(rt, sources, "policy", Some(path), hints) {
+        Ok(text) => Ok(NamedText { name: path, text }),
+        Err(failure) => {
+            if matches!(failure, Failure::File) {
+                tell_own_line(rt.alloc(), files, path, &mut rt.stderr());
+            }
+            Err(failure)
+        }
+    }
 }
 
-// Reads the policies at these paths.
+// Reads the policies at these paths, which sections of these files name.
 fn policies_of<'a, S: Sources>(
     rt: &HostRuntime,
     sources: &S,
+    files: &[NamedText<'_>],
     paths: &'a [String],
     hints: &mut Hints,
 ) -> Result<Vec<NamedText<'a>>, Failure>
@@ -146,7 +157,7 @@ fn policies_of<'a, S: Sources>(
 {
     let mut policies = Vec::new(rt.alloc());
     for path in paths {
-        let policy = named_policy(rt, sources, path.as_str(), hints)?;
+        let policy = named_policy(rt, sources, files, path.as_str(), hints)?;
         if let Err(refused) = policies.push(policy) {
             drop(refused);
             return Err(Failure::NoMemory);
@@ -177,7 +188,7 @@ fn check_texts<S: Sources + Wait, W: Write>(
         (W.contents out.old) (W.contents out.new) failure) }
 {
     let paths = policy_paths(rt.alloc(), given.files)?;
-    let policies = policies_of(rt, sources, paths.as_slice(), hints)?;
+    let policies = policies_of(rt, sources, given.files, paths.as_slice(), hints)?;
     let (options, policy, files) = (given.options, given.policy, given.files);
     let input = CheckInput {
         options,

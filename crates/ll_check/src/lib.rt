@@ -37,7 +37,7 @@ pub use denied::{DeniedTest, Notes, tell_denied};
 pub use learned_files::{LearnInput, learn_files};
 pub use lines::ended;
 pub use outcomes::WantedOutcome;
-pub use policies::{FaultyPolicy, own_policies};
+pub use policies::{FaultyPolicy, own_policies, tell_own_line};
 pub use possible::answers_fit;
 pub use races::check_schedules;
 pub use refused_profile::{ProfileProgress, answered_text, profile_call_text};

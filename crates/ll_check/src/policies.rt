@@ -136,6 +136,35 @@ fn own_line(alloc: Global, file: &str, own: &OwnPolicy) -> Result<String, AllocE
     format!(in alloc; "{file}:{line}:1: @policy {path} {profile}\n")
 }
 
+// Prints the line on where a section of this file names its own policy.
+fn tell_line<E: Write>(alloc: Global, file: &str, own: &OwnPolicy, err: &mut E) {
+    if let Ok(line) = own_line(alloc, file, own) {
+        let _ = err.write_all(line.as_bytes());
+    }
+}
+
+// Returns the section's own policy, if it has this path.
+fn own_at<'a>(file: &'a ReadFile<'_>, path: &str) -> Option<&'a OwnPolicy> {
+    match &file.own {
+        Some(own) if own.file.as_str() == path => Some(own),
+        _ => None,
+    }
+}
+
+/// Prints where a section of these files first names the policy at this path for itself. It is a hint, and no contract
+/// speaks of it.
+pub fn tell_own_line<E: Write>(alloc: Global, files: &[NamedText<'_>], path: &str, err: &mut E) {
+    let Ok(sections) = read_all(alloc, files) else {
+        return;
+    };
+    for file in sections.as_slice() {
+        if let Some(own) = own_at(file, path) {
+            tell_line(alloc, file.name, own, err);
+            return;
+        }
+    }
+}
+
 /// Prints where the section names its own policy, if it does and this failure is by that policy, and notes it.
 pub(crate) fn tell_own<E: Write, N: Notes>(
     alloc: Global,
@@ -151,9 +180,7 @@ pub(crate) fn tell_own<E: Write, N: Notes>(
     if matches!(failure, Failure::NoMemory) {
         return;
     }
-    if let Ok(line) = own_line(alloc, file.name, own) {
-        let _ = err.write_all(line.as_bytes());
-    }
+    tell_line(alloc, file.name, own, err);
     if let Some(text) = input.policy_for(file) {
         let policy = FaultyPolicy {
             path: own.file.as_str(),
