@@ -156,7 +156,7 @@ const NO_MEMORY = fault(4, 'landtree: no memory\n');
 const any = (word) => word;
 const text = (word) => word || undefined;
 const line = (word) => (/[\r\n]/.test(word) ? undefined : text(word));
-const number = (word) => (/^[0-9]{1,15}$/.test(word) ? Number(word) : undefined);
+const number = (word) => (/^\+?0*[0-9]{1,15}$/.test(word) ? Number(word) : undefined);
 const some = (word) => number(word) || undefined;
 // Nothing follows these.
 const FLAG = null;
