@@ -35,9 +35,9 @@ use Rattle.ll_check.specs.declared.check_text.CheckFault.TheVariants as faults
 use Rattle.ll_check.specs.declared.check_text.ReadFile.{ReadFile}
 use Rattle.ll_check.specs.declared.check_text.Test.{Test}
 use Rattle.ll_check.specs.Checks.{IsFirstBad, Tests, has_test, tests_of}
-use Rattle.ll_check.specs.Files.{AreChecked, AreTestsIn, AreTestsOf, Concludes, HasBadLine, IsCheck, IsFileChecked}
-use Rattle.ll_check.specs.Files.{HasBegun, IsSetFor, IsStopped, MayFail, MayStop, Source, order_for, policy_for}
-use Rattle.ll_check.specs.Files.{room_for, source_of, style_of}
+use Rattle.ll_check.specs.Files.{AreChecked, AreTestsChecked, AreTestsIn, AreTestsOf, Concludes, HasBadLine, IsCheck}
+use Rattle.ll_check.specs.Files.{HasBegun, IsFileChecked, IsSetFor, IsStopped, MayFail, MayStop, Source, order_for}
+use Rattle.ll_check.specs.Files.{policy_for, room_for, source_of, style_of}
 use Rattle.ll_check.specs.Report.{IsChecked}
 
 -- ---- files that are read
@@ -112,7 +112,7 @@ pub file_checked : (order : CheckOrder) (policy : List ℕ) (policies : List Sou
     → section ≡ file.section.items → tests ≡ file.checks.tests.items
     → IsSetFor order policy policies (tests_of file).own (length tests) setup
     → IsChecked style setup name section tests made entries before after tally
-    → IsFileChecked order policy policies (tests_of file) before after tally
+    → AreTestsChecked order policy policies (tests_of file) before after tally
 file_checked order policy policies file style setup name section tests made entries before after tally d n s t is
     checked =
     let items : List Test = file.checks.tests.items in (

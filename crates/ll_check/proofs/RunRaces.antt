@@ -2,8 +2,8 @@
 use Rattle.std.proofs.Common.{◌≡◌, ◌∙◌, ◌↔◌, ◌<◌, ◌≤◌, ℕ, ◌+◌, Bool, true, false, cond, not, List, [], ◌∷◌, ◌++◌}
 use Rattle.std.proofs.Common.{length, map, take, get_or, Option, Result, Ok, Err, refl, sym, ap, subst}
 use Rattle.std.proofs.Common.{arith, inl, inr}
-use Rattle.std.specs.Prelude.{◌&&◌, IfErr, IfOk, IsTrue}
-use Rattle.std.specs.List.{AllZip, list_all}
+use Rattle.std.specs.Prelude.{IfErr, IfOk, IsTrue}
+use Rattle.std.specs.List.{AllZip}
 use Rattle.std.proofs.lemmas.List.{map-append, take_all, take_more}
 use Rattle.ll_laws.specs.World.{World}
 use Rattle.ll_seq.specs.History.{Log}
@@ -19,10 +19,10 @@ use Rattle.ll_program.specs.declared.checked.Checked.{Checked}
 use Rattle.ll_program.specs.declared.checked.Checked.TheVariants.{BadLine}
 use Rattle.ll_program.specs.declared.failure.Failure.{Failure}
 use Rattle.ll_check.specs.Files.{HasBegun, source_of, style_of}
-use Rattle.ll_check.specs.Races.{AreRun, ConcludesRaces, IsRaceCheck, IsRaceSetup, IsRun, IsStepMade, JudgedStep}
-use Rattle.ll_check.specs.Races.{RunsSteps, judged_step, one_if, shown_step}
+use Rattle.ll_check.specs.Races.{AreRun, AreStepsRun, ConcludesRaces, IsRaceCheck, IsRaceSetup, IsRun, IsStepMade}
+use Rattle.ll_check.specs.Races.{JudgedStep, RunsSteps, judged_step, one_if, shown_step}
 use Rattle.ll_check.specs.Outcomes.{Meets}
-use Rattle.ll_check.specs.Steps.{HasBadStep, IsStepsOf, StepTests, has_step, steps_of}
+use Rattle.ll_check.specs.Steps.{HasBadStep, IsStepsOf, StepTests, steps_of}
 use Rattle.ll_check.specs.declared.checks.NamedText.{NamedText}
 use Rattle.ll_check.specs.declared.reporter.Style.{Style}
 use Rattle.ll_check.specs.declared.reporter.Tally.{Tally}
@@ -121,7 +121,7 @@ step_judged style file test w w' report log history got bytes passes before afte
 pub file_run : (order : CheckOrder) (file : StepFile) (style : Style) (setup : WorldSetup) (name : List ℕ)
     (tests : List StepTest) (w last : World) (before after : List ℕ) (tally : Tally) → style ≡ style_of order
     → name ≡ file.name.now → tests ≡ file.tests.items → IsRaceSetup order (length tests) setup → w ≡ opened setup
-    → RunsSteps style name w tests before after tally last → IsRun order (steps_of file) before after tally
+    → RunsSteps style name w tests before after tally last → AreStepsRun order (steps_of file) before after tally
 file_run order file style setup name tests w last before after tally s n t is new runs = (
   setup,
   last,
@@ -133,11 +133,6 @@ file_run order file style setup name tests w last before after tally s n t is ne
 )
 
 -- ---- all schedules
-
-pub steps_all : (files : List StepFile)
-    → list_all (λ file. has_step (steps_of file)) files ≡ list_all has_step (map steps_of files)
-steps_all [] = refl
-steps_all (file ∷ files) = ap (λ b. has_step (steps_of file) && b) (steps_all files)
 
 -- one schedule more
 run_more : (order : CheckOrder) (front : List StepTests) (tests : StepTests) (before mid after : List ℕ)

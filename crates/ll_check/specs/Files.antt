@@ -1,7 +1,7 @@
 -- What a check of files does, what it writes, and how it ends. own
-use Rattle.std.specs.Prelude.{◌≡◌, ◌≢◌, ◌⊎◌, ℕ, ◌+◌, ◌==◌, ◌&&◌, true, List, [], ◌∷◌, ◌++◌, Some, None, length}
+use Rattle.std.specs.Prelude.{◌≡◌, ◌≢◌, ◌⊎◌, ℕ, ◌+◌, ◌==◌, true, List, [], ◌∷◌, ◌++◌, Some, None, length}
 use Rattle.std.specs.Prelude.{Option, bytes_eq, min, slice_get, is_some, if◌then◌else◌}
-use Rattle.std.specs.List.{list_all, list_any}
+use Rattle.std.specs.List.{list_any}
 use Rattle.std.specs.Option.{option_map_or}
 use Rattle.ll_rights.specs.declared.limits.TheConstants.{HISTORY_ENTRIES}
 use Rattle.ll_seq.specs.declared.reply.Entry.{Entry}
@@ -25,7 +25,7 @@ use Rattle.ll_check.specs.declared.reporter.Style.{Style}
 use Rattle.ll_check.specs.declared.reporter.Style.TheVariants.{Quiet, Usual, Verbose, Tap, Junit, Json}
 use Rattle.ll_check.specs.declared.reporter.Tally.{Tally}
 use Rattle.ll_check.specs.Checks.{AreSections, IsFirstBad, Own, Tests, has_test}
-use Rattle.ll_check.specs.Report.{IsChecked}
+use Rattle.ll_check.specs.Report.{CountsUntested, IsChecked}
 use Rattle.ll_check.specs.Styles.{head, tail}
 
 -- ---- files, and their tests
@@ -109,12 +109,19 @@ abbrev pub style_of : CheckOrder → Style
 style_of order = styled order.form (if order.quiet then Quiet else (if order.verbose then Verbose else Usual))
 
 -- a section's tests are made in a tree of its own, with this setup, and are reported and counted
-abbrev pub IsFileChecked : CheckOrder → (policy : List ℕ) → (policies : List Source) → Tests
+abbrev pub AreTestsChecked : CheckOrder → (policy : List ℕ) → (policies : List Source) → Tests
     → (before after : List ℕ) → Tally → Type 0
-IsFileChecked order policy policies file before after tally =
+AreTestsChecked order policy policies file before after tally =
     (setup : Setup) × (made : CallReplies) × (entries : List Entry)
     × IsSetFor order policy policies file.own (length file.tests) setup
     × IsChecked (style_of order) setup file.name file.section file.tests made entries before after tally
+
+-- and it is counted as failed if it has none
+abbrev pub IsFileChecked : CheckOrder → (policy : List ℕ) → (policies : List Source) → Tests
+    → (before after : List ℕ) → Tally → Type 0
+IsFileChecked order policy policies file before after tally =
+    (mid : List ℕ) × (tested : Tally) × AreTestsChecked order policy policies file before mid tested
+    × CountsUntested (style_of order) file.name file.section (has_test file) mid after tested tally
 
 -- the sections are checked one after the other, each report follows the one before it, and this is the sum
 abbrev pub AreChecked : CheckOrder → (policy : List ℕ) → (policies : List Source) → List Tests
@@ -126,16 +133,16 @@ AreChecked order policy policies (file ∷ files) before after sum =
     × AreChecked order policy policies files mid after rest
     × (sum.passed ≡ tally.passed + rest.passed) × (sum.failed ≡ tally.failed + rest.failed)
 
--- passed exactly if each section has a test and none fails
-abbrev pub end_of : List Tests → (sum : Tally) → Checked
-end_of files sum = if list_all has_test files && (sum.failed == 0) then Passed else Failed
+-- passed exactly if no test fails: a section without one counts as a failed one
+abbrev pub end_of : (sum : Tally) → Checked
+end_of sum = if sum.failed == 0 then Passed else Failed
 
 -- the sections are checked, the reports are written with the sum, and this is the result
 abbrev pub Concludes : CheckOrder → (policy : List ℕ) → (policies : List Source) → List Tests → Checked
     → (written : List ℕ) → Type 0
 Concludes order policy policies files end written =
     (report : List ℕ) × (sum : Tally) × AreChecked order policy policies files [] report sum
-    × (written ≡ head (style_of order) sum ++ report ++ tail (style_of order) sum) × (end ≡ end_of files sum)
+    × (written ≡ head (style_of order) sum ++ report ++ tail (style_of order) sum) × (end ≡ end_of sum)
 
 -- A check of these files, if the policy's file has this text, and the sections' own policies are among these. If a line
 -- says nothing, nothing is run or written

@@ -1,7 +1,7 @@
 -- What a check of schedules does, what it writes, and how it ends. own
-use Rattle.std.specs.Prelude.{◌≡◌, ◌↔◌, ◌⊎◌, ℕ, ◌+◌, ◌==◌, ◌&&◌, Bool, true, not, List, [], ◌∷◌, ◌++◌, IsTrue, codes}
+use Rattle.std.specs.Prelude.{◌≡◌, ◌↔◌, ◌⊎◌, ℕ, ◌+◌, Bool, true, not, List, [], ◌∷◌, ◌++◌, IsTrue, codes}
 use Rattle.std.specs.Prelude.{decimal, if◌then◌else◌, length, max, min, unwrap_or}
-use Rattle.std.specs.List.{AllZip, list_all}
+use Rattle.std.specs.List.{AllZip}
 use Rattle.ll_rights.specs.declared.limits.TheConstants.{HISTORY_ENTRIES}
 use Rattle.ll_laws.specs.World.{World}
 use Rattle.ll_steps.specs.Tells.{Does, outcome_line}
@@ -12,13 +12,14 @@ use Rattle.ll_wire.specs.Terminal.{escaped}
 use Rattle.ll_program.specs.Comments.{body_of}
 use Rattle.ll_program.specs.Options.{CheckOrder}
 use Rattle.ll_program.specs.declared.checked.Checked.{Checked}
-use Rattle.ll_program.specs.declared.checked.Checked.TheVariants.{BadLine, Failed, Passed}
+use Rattle.ll_program.specs.declared.checked.Checked.TheVariants.{BadLine}
 use Rattle.ll_check.specs.declared.reporter.Style.{Style}
 use Rattle.ll_check.specs.declared.reporter.Style.TheVariants.{Quiet, Usual, Verbose, Tap, Junit, Json}
 use Rattle.ll_check.specs.declared.reporter.Tally.{Tally}
 use Rattle.ll_check.specs.declared.steps.StepTest.{StepTest}
-use Rattle.ll_check.specs.Files.{Source, style_of}
+use Rattle.ll_check.specs.Files.{Source, end_of, style_of}
 use Rattle.ll_check.specs.Outcomes.{Meets}
+use Rattle.ll_check.specs.Report.{CountsUntested}
 use Rattle.ll_check.specs.Steps.{HasBadStep, IsStepsOf, StepTests, has_step}
 use Rattle.ll_check.specs.Styles.{Texts, head, json_test, junit_test, tail, tap_test}
 
@@ -95,10 +96,16 @@ pub record IsRaceSetup (order : CheckOrder) (tests : ℕ) (setup : WorldSetup) :
   pub history : setup.history ≡ min (max tests 1) HISTORY_ENTRIES
 
 -- the tests are made in a tree of their own, and are reported and counted
-abbrev pub IsRun : CheckOrder → StepTests → (before after : List ℕ) → Tally → Type 0
-IsRun order file before after tally =
+abbrev pub AreStepsRun : CheckOrder → StepTests → (before after : List ℕ) → Tally → Type 0
+AreStepsRun order file before after tally =
     (setup : WorldSetup) × (last : World) × IsRaceSetup order (length file.tests) setup
     × RunsSteps (style_of order) file.name (opened setup) file.tests before after tally last
+
+-- and a schedule without a test is counted as failed
+abbrev pub IsRun : CheckOrder → StepTests → (before after : List ℕ) → Tally → Type 0
+IsRun order file before after tally =
+    (mid : List ℕ) × (tested : Tally) × AreStepsRun order file before mid tested
+    × CountsUntested (style_of order) file.name [] (has_step file) mid after tested tally
 
 -- ---- all schedules
 
@@ -109,15 +116,11 @@ AreRun order (file ∷ files) before after sum =
     (mid : List ℕ) × (tally rest : Tally) × IsRun order file before mid tally × AreRun order files mid after rest
     × (sum.passed ≡ tally.passed + rest.passed) × (sum.failed ≡ tally.failed + rest.failed)
 
--- passed exactly if each schedule has a test and none fails
-abbrev pub end_of_races : List StepTests → (sum : Tally) → Checked
-end_of_races files sum = if list_all has_step files && (sum.failed == 0) then Passed else Failed
-
 -- the schedules are run, the reports are written with the sum, and this is the result
 abbrev pub ConcludesRaces : CheckOrder → List StepTests → Checked → (written : List ℕ) → Type 0
 ConcludesRaces order files end written =
     (report : List ℕ) × (sum : Tally) × AreRun order files [] report sum
-    × (written ≡ head (style_of order) sum ++ report ++ tail (style_of order) sum) × (end ≡ end_of_races files sum)
+    × (written ≡ head (style_of order) sum ++ report ++ tail (style_of order) sum) × (end ≡ end_of sum)
 
 -- a check of these schedules. If a line says nothing, nothing is run or written
 abbrev pub IsRaceCheck : CheckOrder → List Source → Checked → (written : List ℕ) → Type 0

@@ -1,5 +1,5 @@
 -- What the check of a section writes, and how its tests are judged. own
-use Rattle.std.specs.Prelude.{◌≡◌, ◌↔◌, IsTrue, ℕ, Bool, false, not, List, [], ◌++◌, codes, decimal, map}
+use Rattle.std.specs.Prelude.{◌≡◌, ◌↔◌, IsTrue, ℕ, ◌+◌, Bool, true, false, not, List, [], ◌++◌, codes, decimal, map}
 use Rattle.std.specs.Prelude.{◌==◌, if◌then◌else◌, length}
 use Rattle.std.specs.List.{AllByRecursion, count_by, flat_map}
 use Rattle.ll_seq.specs.declared.reply.Entry.{Entry}
@@ -92,20 +92,24 @@ shown Tap file section it = tap_test (texts file section it)
 shown Junit file section it = junit_test (texts file section it)
 shown Json file section it = json_test (texts file section it)
 
--- ---- a refused profile
+-- ---- failed tests that no line spells
 
--- a refused profile as texts: a test `profile` at line 0, which isn't accepted. What is told of it is free
-abbrev pub refused_texts : (file section told : List ℕ) → Texts
-refused_texts file section told =
+-- a failed test of this name as texts, at line 0
+abbrev pub unspelled : (file section name wanted got : List ℕ) → Texts
+unspelled file section name wanted got =
     record {
       file = escaped file;
       section = section;
       line = codes "0";
-      command = codes "profile";
-      wanted = codes "accepted";
-      got = body_of told;
+      command = name;
+      wanted = wanted;
+      got = got;
       passes = false;
     }
+
+-- a refused profile as texts: a test `profile`, which isn't accepted. What is told of it is free
+abbrev pub refused_texts : (file section told : List ℕ) → Texts
+refused_texts file section told = unspelled file section (codes "profile") (codes "accepted") (body_of told)
 
 abbrev pub refused_line : (file section told : List ℕ) → List ℕ
 refused_line file section told = file ++ codes ": " ++ label section ++ codes "profile refused: " ++ told
@@ -117,6 +121,27 @@ shown_refused Verbose file section told = refused_line file section told
 shown_refused Tap file section told = tap_test (refused_texts file section told)
 shown_refused Junit file section told = junit_test (refused_texts file section told)
 shown_refused Json file section told = json_test (refused_texts file section told)
+
+-- a section without a test as texts: a test `tests`
+abbrev pub untested_texts : (file section : List ℕ) → Texts
+untested_texts file section = unspelled file section (codes "tests") (codes "some") (codes "none")
+
+-- it is shown to other programs
+abbrev pub shown_untested : Style → (file section : List ℕ) → List ℕ
+shown_untested Quiet file section = []
+shown_untested Usual file section = []
+shown_untested Verbose file section = []
+shown_untested Tap file section = tap_test (untested_texts file section)
+shown_untested Junit file section = junit_test (untested_texts file section)
+shown_untested Json file section = json_test (untested_texts file section)
+
+-- it counts as one failed test more
+abbrev pub CountsUntested : Style → (file section : List ℕ) → (is_tested : Bool) → (before after : List ℕ)
+    → (tested tally : Tally) → Type 0
+CountsUntested style file section true before after tested tally = (after ≡ before) × (tally ≡ tested)
+CountsUntested style file section false before after tested tally =
+    (after ≡ before ++ shown_untested style file section) × (tally.passed ≡ tested.passed)
+    × (tally.failed ≡ tested.failed + 1)
 
 -- ---- a whole section
 

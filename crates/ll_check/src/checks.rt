@@ -1,6 +1,6 @@
 //! Checks of files, as the program makes them.
 
-ghost use Rattle.std.specs.Prelude.{◌≡◌, ◌≤◌, ◌+◌, ◌++◌, ℕ, IfErr, IfOk, OnOk, length, map};
+ghost use Rattle.std.specs.Prelude.{◌≡◌, ◌≤◌, ◌+◌, ◌++◌, ℕ, IfErr, IfOk, length, map};
 ghost use Rattle.std.specs.Option.{option_map_or};
 ghost use Rattle.ll_rights.specs.declared.limits.TheConstants.{HISTORY_ENTRIES};
 ghost use Rattle.std.specs.List.{list_all};
@@ -8,7 +8,8 @@ ghost use Rattle.ll_wire.specs.Transcript.{Writes};
 ghost use Rattle.ll_program.specs.Options.{checked_in};
 ghost use Rattle.ll_program.specs.declared.checked.Checked as checked;
 ghost use Rattle.ll_check.specs.Checks.{has_test, tests_of};
-ghost use Rattle.ll_check.specs.Files.{AreChecked, AreTestsIn, Concludes, HasBadLine, IsCheck, IsFileChecked, IsSetFor};
+ghost use Rattle.ll_check.specs.Files.{AreChecked, AreTestsChecked, AreTestsIn, Concludes, HasBadLine, IsCheck};
+ghost use Rattle.ll_check.specs.Files.{IsFileChecked, IsSetFor};
 ghost use Rattle.ll_check.specs.Files.{HasBegun, IsStopped, MayFail, MayStop};
 ghost use Rattle.ll_check.specs.Files.{end_of, room_for, source_of, style_of};
 ghost use Rattle.ll_check.specs.Styles.{head, tail};
@@ -165,6 +166,50 @@ pub(crate) fn style_of(options: &CheckOptions) -> Style
     }
 }
 
+impl ReadFile<'_> {
+    // Returns what reports on the section.
+    fn reporter(&self, alloc: Global, options: &CheckOptions) -> Reporter<'_>
+        ensures style { result.style ≡ style_of (checked_in options.now) }
+        ensures file { result.file.now ≡ (tests_of self.now).name }
+        ensures section { result.section.now ≡ (tests_of self.now).section }
+    {
+        Reporter {
+            alloc,
+            style: style_of(options),
+            file: self.name.as_bytes(),
+            section: self.section.as_slice(),
+        }
+    }
+}
+
+// Makes the tests of a section, and appends the report on them.
+fn check_tests<R: Runner, N: Notes>(
+    runner: &R,
+    alloc: Global,
+    input: &CheckInput<'_, '_, '_>,
+    file: &ReadFile<'_>,
+    report: &mut Vec<u8>,
+    notes: &mut N,
+) -> Result<Tally, Failure>
+    ensures checked { IfOk result (AreTestsChecked (checked_in input.now.options.now) input.now.policy.now
+        (map source_of input.now.policies.now) (tests_of file.now) report.old.items report.new.items) }
+    ensures failure { IfErr result (IsStopped (checked_in input.now.options.now) input.now.policy.now
+        (map source_of input.now.policies.now) (tests_of file.now)) }
+{
+    let tests = file.checks.tests.as_slice();
+    let setup = setup_for(alloc, input, file, tests.len())?;
+    let header = header_of(&setup);
+    let reporter = file.reporter(alloc, input.options);
+    let checked = match check_file(runner, report, &reporter, setup, tests) {
+        Ok(checked) => checked,
+        Err(fault) => return Err(in_memory(Failure::of_run(fault))),
+    };
+    if reporter.style != Style::Quiet && notes.are_wanted() {
+        tell_denied(notes, &reporter, &header, tests, &checked);
+    }
+    Ok(checked.tally)
+}
+
 // Checks a section, and appends its report.
 fn check_one<R: Runner, N: Notes>(
     runner: &R,
@@ -179,23 +224,12 @@ fn check_one<R: Runner, N: Notes>(
     ensures failure { IfErr result (IsStopped (checked_in input.now.options.now) input.now.policy.now
         (map source_of input.now.policies.now) (tests_of file.now)) }
 {
-    let tests = file.checks.tests.as_slice();
-    let setup = setup_for(alloc, input, file, tests.len())?;
-    let header = header_of(&setup);
-    let reporter = Reporter {
-        alloc,
-        style: style_of(input.options),
-        file: file.name.as_bytes(),
-        section: file.section.as_slice(),
-    };
-    let checked = match check_file(runner, report, &reporter, setup, tests) {
-        Ok(checked) => checked,
-        Err(fault) => return Err(in_memory(Failure::of_run(fault))),
-    };
-    if reporter.style != Style::Quiet && notes.are_wanted() {
-        tell_denied(notes, &reporter, &header, tests, &checked);
+    let tested = check_tests(runner, alloc, input, file, report, notes)?;
+    let reporter = file.reporter(alloc, input.options);
+    match reporter.count_untested(report, file.has_test(), tested) {
+        Ok(tally) => Ok(tally),
+        Err(_) => Err(Failure::NoMemory),
     }
-    Ok(checked.tally)
 }
 
 impl Tally {
@@ -223,6 +257,17 @@ impl Tally {
             return Err(Failure::NoMemory);
         };
         Ok(Tally { passed, failed })
+    }
+
+    /// Returns how a check ends whose tests these are.
+    pub(crate) fn end(self) -> Checked
+        ensures { result ≡ end_of self }
+    {
+        if self.failed == 0 {
+            Checked::Passed
+        } else {
+            Checked::Failed
+        }
     }
 }
 
@@ -299,17 +344,6 @@ fn tell_no_profile<E: Write>(options: &CheckOptions, err: &mut E) {
     }
 }
 
-// Returns the result of the check.
-fn end_of(files: &[ReadFile<'_>], sum: Tally) -> Checked
-    ensures { result ≡ end_of (map tests_of files.now) sum }
-{
-    if have_tests(files) && sum.failed == 0 {
-        Checked::Passed
-    } else {
-        Checked::Failed
-    }
-}
-
 /// Returns the whole of a report on tests, of which so many pass and fail.
 pub(crate) fn report_around(
     alloc: Global,
@@ -352,7 +386,7 @@ fn conclude<R: Runner, W: Write, N: Notes>(
         return Err(Stopped { section, failure });
     };
     match write_bytes(report.as_slice(), out) {
-        Ok(()) => Ok(end_of(files, sum)),
+        Ok(()) => Ok(sum.end()),
         Err(failure) => Err(Stopped { section, failure }),
     }
 }

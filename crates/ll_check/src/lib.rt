@@ -28,6 +28,7 @@ mod trees;
 mod trial;
 mod undenied;
 mod untaught;
+mod untested;
 mod wanted;
 
 pub use bad_lines::{Blame, LinesOf, explain};

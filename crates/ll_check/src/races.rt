@@ -1,13 +1,12 @@
 //! Checks of schedules, as the program makes them.
 
-ghost use Rattle.std.specs.Prelude.{◌≡◌, ◌⊎◌, ◌++◌, ℕ, IfErr, IfOk, map};
-ghost use Rattle.std.specs.List.{AllZip, list_all};
+ghost use Rattle.std.specs.Prelude.{◌≡◌, ◌⊎◌, ◌++◌, [], IfErr, IfOk, map};
 ghost use Rattle.ll_steps.specs.Tells.{Does};
 ghost use Rattle.ll_wire.specs.Transcript.{Writes};
 ghost use Rattle.ll_program.specs.Options.{checked_in};
-ghost use Rattle.ll_check.specs.Files.{HasBegun, source_of};
-ghost use Rattle.ll_check.specs.Races.{AreRun, ConcludesRaces, IsRaceCheck, IsRaceSetup, IsRun, IsStepMade, JudgedStep};
-ghost use Rattle.ll_check.specs.Races.{RunsSteps, end_of_races, shown_step};
+ghost use Rattle.ll_check.specs.Files.{HasBegun, source_of, style_of};
+ghost use Rattle.ll_check.specs.Races.{AreRun, AreStepsRun, ConcludesRaces, IsRaceCheck, IsRaceSetup, IsRun};
+ghost use Rattle.ll_check.specs.Races.{IsStepMade, JudgedStep, RunsSteps, shown_step};
 ghost use Rattle.ll_check.specs.Steps.{has_step, steps_of};
 
 use crate::checks::{NamedText, TestKind, report_around, style_of, tell_bad};
@@ -105,7 +104,53 @@ fn judge_steps(
     Ok(tally)
 }
 
+impl StepFile<'_> {
+    // Reports whether the schedule has a test.
+    fn has_step(&self) -> bool
+        ensures { result ≡ has_step (steps_of self.now) }
+    {
+        !self.tests.is_empty()
+    }
+
+    // Returns what reports on the schedule.
+    fn reporter(&self, alloc: Global, options: &CheckOptions) -> Reporter<'_>
+        ensures style { result.style ≡ style_of (checked_in options.now) }
+        ensures file { result.file.now ≡ (steps_of self.now).name }
+        ensures section { result.section.now ≡ [] }
+    {
+        Reporter {
+            alloc,
+            style: style_of(options),
+            file: self.name.as_bytes(),
+            section: b"",
+        }
+    }
+}
+
 // Makes the tests of a schedule in a tree of its own, and appends the report on them.
+fn run_steps(
+    alloc: Global,
+    options: &CheckOptions,
+    file: &StepFile<'_>,
+    report: &mut Vec<u8>,
+) -> Result<Tally, Failure>
+    ensures run { IfOk result (AreStepsRun (checked_in options.now) (steps_of file.now)
+        report.old.items report.new.items) }
+    ensures failure { IfErr result (λ failure. failure ≡ Failure.NoMemory) }
+{
+    let tests = file.tests.as_slice();
+    let setup = setup_by(options, tests.len());
+    let reporter = file.reporter(alloc, options);
+    let Ok(mut world) = World::new(alloc, setup.rules, setup.nodes, setup.history) else {
+        return Err(Failure::NoMemory);
+    };
+    match judge_steps(&reporter, &mut world, tests, report) {
+        Ok(tally) => Ok(tally),
+        Err(_) => Err(Failure::NoMemory),
+    }
+}
+
+// Checks a schedule, and appends its report.
 fn run_file(
     alloc: Global,
     options: &CheckOptions,
@@ -115,18 +160,9 @@ fn run_file(
     ensures run { IfOk result (IsRun (checked_in options.now) (steps_of file.now) report.old.items report.new.items) }
     ensures failure { IfErr result (λ failure. failure ≡ Failure.NoMemory) }
 {
-    let tests = file.tests.as_slice();
-    let setup = setup_by(options, tests.len());
-    let reporter = Reporter {
-        alloc,
-        style: style_of(options),
-        file: file.name.as_bytes(),
-        section: b"",
-    };
-    let Ok(mut world) = World::new(alloc, setup.rules, setup.nodes, setup.history) else {
-        return Err(Failure::NoMemory);
-    };
-    match judge_steps(&reporter, &mut world, tests, report) {
+    let tested = run_steps(alloc, options, file, report)?;
+    let reporter = file.reporter(alloc, options);
+    match reporter.count_untested(report, file.has_step(), tested) {
         Ok(tally) => Ok(tally),
         Err(_) => Err(Failure::NoMemory),
     }
@@ -151,45 +187,12 @@ fn run_all(
     Ok(sum)
 }
 
-impl StepFile<'_> {
-    // Reports whether the schedule has a test.
-    fn has_step(&self) -> bool
-        ensures { result ≡ has_step (steps_of self.now) }
-    {
-        !self.tests.is_empty()
-    }
-}
-
-fn are_tested(files: &[StepFile<'_>]) -> bool
-    ensures { result ≡ list_all (λ file. has_step (steps_of file)) files.now }
-{
-    files.iter().all(|file| file.has_step())
-}
-
-// Reports whether each schedule has a test.
-fn have_steps(files: &[StepFile<'_>]) -> bool
-    ensures { result ≡ list_all has_step (map steps_of files.now) }
-{
-    are_tested(files)
-}
-
 // Prints which schedules have no test.
 fn tell_untested<E: Write>(files: &[StepFile<'_>], err: &mut E) {
     for file in files {
         if !file.has_step() {
             let _ = writeln!(err, "no test in {}", file.name);
         }
-    }
-}
-
-// Returns the result of the check.
-fn end_of(files: &[StepFile<'_>], sum: Tally) -> Checked
-    ensures { result ≡ end_of_races (map steps_of files.now) sum }
-{
-    if have_steps(files) && sum.failed == 0 {
-        Checked::Passed
-    } else {
-        Checked::Failed
     }
 }
 
@@ -212,7 +215,7 @@ fn conclude<W: Write>(
         return Err(Failure::NoMemory);
     };
     match write_bytes(report.as_slice(), out) {
-        Ok(()) => Ok(end_of(files, sum)),
+        Ok(()) => Ok(sum.end()),
         Err(failure) => Err(failure),
     }
 }

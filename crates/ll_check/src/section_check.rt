@@ -11,12 +11,12 @@ use crate::check_text::Test;
 use crate::refused_profile::{push_refusal, refusal_text};
 use crate::reporter::{Reporter, Style, Tally};
 use crate::runner::Runner;
-use crate::styles::{Syntax, TestTexts};
+use crate::styles::Syntax;
 use crate::test_run::make;
 use ll_program::body_of;
 use ll_seq::History;
 use ll_session::{CallReplies, RunFault, Setup};
-use ll_wire::{SessionFault, escaped};
+use ll_wire::SessionFault;
 use std::alloc::AllocError;
 
 impl Reporter<'_> {
@@ -30,17 +30,7 @@ impl Reporter<'_> {
         ensures { OnOk result (out.new.items ≡ out.old.items
             ++ test_in syntax (refused_texts self.now.file.now self.now.section.now line.now)) }
     {
-        let file = escaped(self.alloc, self.file)?;
-        let texts = TestTexts {
-            file: file.as_bytes(),
-            section: self.section,
-            line: b"0",
-            command: b"profile",
-            wanted: b"accepted",
-            got: body_of(line),
-            passes: false,
-        };
-        texts.push_in(out, syntax)
+        self.push_unspelled(out, syntax, b"profile", b"accepted", body_of(line))
     }
 
     // Appends that the profile is refused, which this line tells, unless no test is shown.

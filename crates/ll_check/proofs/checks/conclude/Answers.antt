@@ -21,7 +21,7 @@ returns-clause-begun g c =
     ∙ ap (λ (x : List ℕ). head (style_of order) sum ++ x ++ tail (style_of order) sum) c.as_slice.ensures.value in
     inr (
       e.0,
-      end_of files sum,
+      end_of sum,
       c.in-Ok.report.items,
       (
         tests,

@@ -1,8 +1,8 @@
 use Rattle.std.proofs.Common.{◌∙◌, ◌≡◌, ◌++◌, ℕ, List, ap, inr, map, refl, subst}
 use Rattle.ll_wire.specs.WriterGains.{AppendsFront}
 use Rattle.ll_program.specs.Options.{checked_in}
-use Rattle.ll_check.specs.Files.{style_of}
-use Rattle.ll_check.specs.Races.{AreRun, end_of_races}
+use Rattle.ll_check.specs.Files.{end_of, style_of}
+use Rattle.ll_check.specs.Races.{AreRun}
 use Rattle.ll_check.specs.Steps.{steps_of}
 use Rattle.ll_check.specs.Styles.{head, tail}
 use Rattle.ll_check.specs.declared.reporter.Style.{Style}
@@ -20,7 +20,7 @@ returns-clause-begun g c =
     ∙ ap (λ (x : List ℕ). head (style_of order) sum ++ x ++ tail (style_of order) sum) c.as_slice.ensures.value in
     inr (
       e.0,
-      end_of_races files sum,
+      end_of sum,
       c.in-Ok.report.items,
       (
         tests,
