@@ -300,12 +300,7 @@ fn export_file<S: Sources, W: Write>(
         × IfSome (S.texts sources.now (Some (exported_in options.now).policy)) (λ told. text ≡ told)
         × exports.MayFail (exported_in options.now) text failure) }
 {
-    let mut file = Late::keeping(
-        rt.alloc(),
-        sources,
-        Some(options.policy),
-        hints.are_wanted(),
-    );
+    let mut file = hints.source(rt.alloc(), sources, Some(options.policy));
     let told = export(rt.alloc(), options, &mut file, out);
     hints.of_input("policy", &file);
     match told {

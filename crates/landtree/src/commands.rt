@@ -22,7 +22,7 @@ use ll_commands::{
     Binds, Drawn, Film, Log, conclude_schedule, film_by, schedule, schedule_drawn, serve, tell_why,
 };
 use ll_program::{
-    Clash, Conclusion, Device, Failure, Late, NewFile, Purpose, Question, Ran, RunOptions,
+    Clash, Conclusion, Device, Failure, NewFile, Purpose, Question, Ran, RunOptions,
     ScheduleOptions, ServeOptions, Shown, Sources, WhyOptions, audit, named, run,
 };
 use ll_wire::Destination;
@@ -88,15 +88,9 @@ fn run_script<S: Sources + Wait, W: Write>(
 ) -> Result<Conclusion, Failure>
     ensures { EndsRun (S.texts sources.now) (order_in options.now) (W.contents out.old) (W.contents out.new) result }
 {
-    let keeps = hints.are_wanted();
-    let mut policy = Late::keeping(
-        rt.alloc(),
-        sources,
-        Some(options.tree.policy.unwrap_or("")),
-        keeps,
-    );
-    let mut script = Late::keeping(rt.alloc(), sources, named(options.script), keeps);
-    let mut file = history_file(rt, options.save, keeps);
+    let mut policy = hints.source(rt.alloc(), sources, Some(options.tree.policy.unwrap_or("")));
+    let mut script = hints.source(rt.alloc(), sources, named(options.script));
+    let mut file = history_file(rt, options.save, hints.are_wanted());
     let ended = run_over(
         sources,
         rt.alloc(),
@@ -163,7 +157,7 @@ fn judge_file<S: Sources, W: Write>(
     ensures failure { IfErr result
         (FailsAudit (S.texts sources.now (named file.now)) (W.contents out.old) (W.contents out.new)) }
 {
-    let mut input = Late::keeping(rt.alloc(), sources, named(file), hints.are_wanted());
+    let mut input = hints.source(rt.alloc(), sources, named(file));
     let mut shown = Shown::new(rt.stderr(), rt.stderr().is_terminal());
     let judged = audit(rt.alloc(), &mut input, out, &mut shown);
     hints.of_input("history", &input);
@@ -284,7 +278,7 @@ fn perform_file<S: Sources, W: Write>(
     ensures { EndsSchedule (S.texts sources.now (named (scheduled_in options.now).file)) (scheduled_in options.now)
         (W.contents out.old) (W.contents out.new) result }
 {
-    let mut file = Late::keeping(rt.alloc(), sources, named(options.file), hints.are_wanted());
+    let mut file = hints.source(rt.alloc(), sources, named(options.file));
     let ended = perform_input(rt, options, &mut file, out, hints);
     hints.of_input("schedule", &file);
     hints.of_schedule(options, &ended, &file);
@@ -349,7 +343,7 @@ pub fn why_options<S: Sources, W: Write>(
         hints.of_misfit(Some(Misfit::of_why(options)));
         return Err(Failure::CommandLine);
     }
-    let mut file = Late::keeping(rt.alloc(), sources, file_asked(options), hints.are_wanted());
+    let mut file = hints.source(rt.alloc(), sources, file_asked(options));
     let told = tell_why(rt.alloc(), options, &mut file, out);
     hints.of_input("file", &file);
     hints.of_question(options, &told, &file);
@@ -379,14 +373,8 @@ fn serve_port<S: Sources + Threads + Wait + Sync, B: Binds, W: Write>(
         rt.stderr(),
         rt.stderr().is_terminal(),
     );
-    let keeps = hints.are_wanted();
-    let mut policy = Late::keeping(
-        rt.alloc(),
-        sources,
-        Some(options.tree.policy.unwrap_or("")),
-        keeps,
-    );
-    let is_telling = options.log || keeps;
+    let mut policy = hints.source(rt.alloc(), sources, Some(options.tree.policy.unwrap_or("")));
+    let is_telling = options.log || hints.are_wanted();
     let mut file = history_file(rt, options.save, is_telling);
     let ended = serve(
         sources,

@@ -1,6 +1,6 @@
 //! The lines after a fault line.
 
-ghost use Rattle.std.specs.Prelude.{IfOk, string_bytes};
+ghost use Rattle.std.specs.Prelude.{◌≡◌, IfOk, option_map, string_bytes};
 ghost use Rattle.std.specs.List.{All};
 ghost use Rattle.landtree.specs.Told.{IsTold};
 
@@ -173,6 +173,19 @@ impl Hints {
     /// Reports whether hints are wanted. What takes long to find is looked for only then.
     pub fn are_wanted(&self) -> bool {
         self.is_wanted
+    }
+
+    /// Returns what reads the file with this name, or standard input. It keeps what is read if hints are wanted.
+    pub fn source<'a, S: Sources>(
+        &self,
+        alloc: Global,
+        sources: &'a S,
+        file: Option<&'a str>,
+    ) -> Late<'a, S>
+        ensures text { result.text ≡ S.texts sources.now (option_map (λ name. name.now) file.entry) }
+        ensures left { result.left ≡ S.texts sources.now (option_map (λ name. name.now) file.entry) }
+    {
+        Late::keeping(alloc, sources, file, self.is_wanted)
     }
 
     // Reports whether hints are wanted, and there is none yet.

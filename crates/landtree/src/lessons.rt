@@ -15,7 +15,7 @@ use crate::hints::Hints;
 use crate::misfits::Misfit;
 use ll_check::{LearnInput, Notes, SharedRunner, learn_files};
 use ll_commands::{learn_history, tell_learned};
-use ll_program::{Checked, Conclusion, Failure, Late, LearnOptions, Lessons, Sources, named};
+use ll_program::{Checked, Conclusion, Failure, LearnOptions, Lessons, Sources, named};
 use std::alloc::Global;
 use std::io::{Read, Write};
 use std::sync::Wait;
@@ -135,7 +135,7 @@ fn learn_saved<S: Sources, W: Write>(
     ensures { EndsByHistory (S.texts sources.now) (learn_in options.now) history.now
         (W.contents out.old) (W.contents out.new) result }
 {
-    let mut file = Late::keeping(rt.alloc(), sources, named(history), hints.are_wanted());
+    let mut file = hints.source(rt.alloc(), sources, named(history));
     let ended = learn_from(
         rt.alloc(),
         options,

@@ -9,7 +9,7 @@ ghost use Rattle.ll_commands.specs.RightsEnd.{EndsDifference, EndsRights, EndsTo
 use crate::hints::Hints;
 use crate::misfits::Misfit;
 use ll_commands::{tell_all_rights, tell_difference, tell_rights};
-use ll_program::{Conclusion, Failure, Late, OldPolicy, RightsOptions, RightsScope, Sources};
+use ll_program::{Conclusion, Failure, OldPolicy, RightsOptions, RightsScope, Sources};
 use std::io::Write;
 
 // Writes the rights of a policy's profile.
@@ -25,12 +25,7 @@ fn tell_profile<S: Sources, W: Write>(
         (IsTable (rights_in options.now) profile.now) (LacksTable (rights_in options.now) profile.now)
         (W.contents out.old) (W.contents out.new) result }
 {
-    let mut file = Late::keeping(
-        rt.alloc(),
-        sources,
-        Some(options.policy),
-        hints.are_wanted(),
-    );
+    let mut file = hints.source(rt.alloc(), sources, Some(options.policy));
     let told = tell_rights(rt.alloc(), options, profile, &mut file, out);
     hints.of_input("policy", &file);
     hints.of_rights(options, profile, &told, file.text());
@@ -51,12 +46,7 @@ fn tell_all_profiles<S: Sources, W: Write>(
     ensures { EndsTold (S.texts sources.now) (rights_in options.now).policy (IsAllTables (rights_in options.now))
         (LacksTables (rights_in options.now)) (W.contents out.old) (W.contents out.new) result }
 {
-    let mut file = Late::keeping(
-        rt.alloc(),
-        sources,
-        Some(options.policy),
-        hints.are_wanted(),
-    );
+    let mut file = hints.source(rt.alloc(), sources, Some(options.policy));
     let told = tell_all_rights(rt.alloc(), options, &mut file, out, hints);
     hints.of_input("policy", &file);
     hints.of_all_rights(options, &told, file.text());
@@ -78,9 +68,8 @@ fn tell_change<'x, S: Sources, W: Write>(
     ensures { EndsDifference (S.texts sources.now) (rights_in options.now) compared.now.old.now
         compared.now.profile.now (W.contents out.old) (W.contents out.new) result }
 {
-    let keeps = hints.are_wanted();
-    let mut old_file = Late::keeping(rt.alloc(), sources, Some(compared.old), keeps);
-    let mut file = Late::keeping(rt.alloc(), sources, Some(options.policy), keeps);
+    let mut old_file = hints.source(rt.alloc(), sources, Some(compared.old));
+    let mut file = hints.source(rt.alloc(), sources, Some(options.policy));
     let told = tell_difference(rt.alloc(), options, compared, &mut old_file, &mut file, out);
     hints.of_input("policy", &old_file);
     hints.of_input("policy", &file);

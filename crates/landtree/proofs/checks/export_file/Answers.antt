@@ -14,7 +14,7 @@ returns-in-Ok-clause-written g c =
     let out = g.W.Write.contents c.args.out.now in
     let out' = g.W.Write.contents c.export-told.new.out in
     subst (λ (r : Result (Unit {0}) Failure). WritesExport texts order out out' (ended r)) c.in-Ok.is
-    (export_written texts order _ out out' (of_source texts c.keeping-file.ensures.left) c.export-told.result
+    (export_written texts order _ out out' (of_source texts c.source-file.ensures.left) c.export-told.result
     c.export-told.ensures.export c.export-told.ensures.nothing c.export-told.ensures.broken)
 
 pub returns-clause-written : goal.returns-clause-written
@@ -24,5 +24,5 @@ returns-clause-written g c =
     let out = g.W.Write.contents c.args.out.now in
     let out' = g.W.Write.contents c.export-told.new.out in
     subst (λ (r : Result (Unit {0}) Failure). WritesExport texts order out out' (ended r)) c.in-Err.is
-    (export_written texts order _ out out' (of_source texts c.keeping-file.ensures.left) c.export-told.result
+    (export_written texts order _ out out' (of_source texts c.source-file.ensures.left) c.export-told.result
     c.export-told.ensures.export c.export-told.ensures.nothing c.export-told.ensures.broken)

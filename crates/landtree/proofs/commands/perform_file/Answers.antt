@@ -10,4 +10,4 @@ returns g c =
     let out' = g.W.Write.contents c.perform_input-ended.new.out in
     subst (λ (t : Option (List ℕ)).
     EndsSchedule t (scheduled_in c.args.options.now) out out' c.perform_input-ended.result)
-    (c.keeping-file.ensures.left ∙ ap texts c.named.ensures) c.perform_input-ended.ensures
+    (c.source-file.ensures.left ∙ ap texts c.named.ensures) c.perform_input-ended.ensures

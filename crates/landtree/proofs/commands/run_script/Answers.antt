@@ -15,9 +15,9 @@ returns-in-Ok g c =
     let out' = g.W.Write.contents c.run_over-ended.new.out in
     subst (λ (r : Result Ran Failure). EndsRun texts order out out' (ended_by r)) c.in-Ok.is
     (ends_run texts order c.run_over-ended.result _ _ out out'
-    (c.keeping-script.ensures.left ∙ ap texts c.named.ensures)
+    (c.source-script.ensures.left ∙ ap texts c.named.ensures)
     (λ text. policy_text texts c.args.options.now.tree.policy c.unwrap_or.result _ _ text c.unwrap_or.ensures
-    c.keeping-policy.ensures.left) c.run_over-ended.ensures.done c.run_over-ended.ensures.failure)
+    c.source-policy.ensures.left) c.run_over-ended.ensures.done c.run_over-ended.ensures.failure)
 
 pub returns : goal.returns
 returns g c =
@@ -27,6 +27,6 @@ returns g c =
     let out' = g.W.Write.contents c.run_over-ended.new.out in
     subst (λ (r : Result Ran Failure). EndsRun texts order out out' (ended_by r)) c.in-Err.is
     (ends_run texts order c.run_over-ended.result _ _ out out'
-    (c.keeping-script.ensures.left ∙ ap texts c.named.ensures)
+    (c.source-script.ensures.left ∙ ap texts c.named.ensures)
     (λ text. policy_text texts c.args.options.now.tree.policy c.unwrap_or.result _ _ text c.unwrap_or.ensures
-    c.keeping-policy.ensures.left) c.run_over-ended.ensures.done c.run_over-ended.ensures.failure)
+    c.source-policy.ensures.left) c.run_over-ended.ensures.done c.run_over-ended.ensures.failure)

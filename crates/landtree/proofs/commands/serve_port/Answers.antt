@@ -34,7 +34,7 @@ returns-clause-done g c =
     done_somewhere c.serve-ended.result (served_in c.args.options.now) _ _ _ _ _ _ _
     (λ text. policy_text (g.S.Sources.texts c.args.sources.now) c.args.options.now.tree.policy c.unwrap_or.result _ _
     text
-    c.unwrap_or.ensures c.keeping-policy.ensures.left)
+    c.unwrap_or.ensures c.source-policy.ensures.left)
     c.serve-ended.ensures.done
 
 pub returns-clause-failure : goal.returns-clause-failure
@@ -42,5 +42,5 @@ returns-clause-failure g c =
     fails_somewhere c.serve-ended.result (served_in c.args.options.now) _ _ _ _ _ _
     (λ text. policy_text (g.S.Sources.texts c.args.sources.now) c.args.options.now.tree.policy c.unwrap_or.result _ _
     text
-    c.unwrap_or.ensures c.keeping-policy.ensures.left)
+    c.unwrap_or.ensures c.source-policy.ensures.left)
     c.serve-ended.ensures.failure

@@ -7,4 +7,4 @@ pub returns : goal.returns
 returns g c =
     let texts = g.S.Sources.texts c.args.sources.now in
     by_history texts (learn_in c.args.options.now) c.args.history.now _ _ _ c.learn_from-ended.result
-    (c.keeping-file.ensures.left ∙ ap texts c.named.ensures) c.learn_from-ended.ensures
+    (c.source-file.ensures.left ∙ ap texts c.named.ensures) c.learn_from-ended.ensures

@@ -15,7 +15,7 @@ returns-in-Ok g c =
     (LacksTables order) (g.W.Write.contents c.args.out.now)
     (g.W.Write.contents c.tell_all_rights-told.new.out) (ended r))
     c.in-Ok.is
-    (told_end texts order.policy (IsAllTables order) (LacksTables order) _ _ _ c.keeping-file.ensures.left
+    (told_end texts order.policy (IsAllTables order) (LacksTables order) _ _ _ c.source-file.ensures.left
     c.tell_all_rights-told.result c.tell_all_rights-told.ensures.tables c.tell_all_rights-told.ensures.failure)
 
 pub returns : goal.returns
@@ -26,5 +26,5 @@ returns g c =
     (LacksTables order) (g.W.Write.contents c.args.out.now)
     (g.W.Write.contents c.tell_all_rights-told.new.out) (ended r))
     c.in-Err.is
-    (told_end texts order.policy (IsAllTables order) (LacksTables order) _ _ _ c.keeping-file.ensures.left
+    (told_end texts order.policy (IsAllTables order) (LacksTables order) _ _ _ c.source-file.ensures.left
     c.tell_all_rights-told.result c.tell_all_rights-told.ensures.tables c.tell_all_rights-told.ensures.failure)

@@ -16,7 +16,7 @@ returns-in-Ok g c =
     (LacksTable order profile) (g.W.Write.contents c.args.out.now)
     (g.W.Write.contents c.tell_rights-told.new.out) (ended r))
     c.in-Ok.is
-    (told_end texts order.policy (IsTable order profile) (LacksTable order profile) _ _ _ c.keeping-file.ensures.left
+    (told_end texts order.policy (IsTable order profile) (LacksTable order profile) _ _ _ c.source-file.ensures.left
     c.tell_rights-told.result c.tell_rights-told.ensures.table c.tell_rights-told.ensures.failure)
 
 pub returns : goal.returns
@@ -28,5 +28,5 @@ returns g c =
     (LacksTable order profile) (g.W.Write.contents c.args.out.now)
     (g.W.Write.contents c.tell_rights-told.new.out) (ended r))
     c.in-Err.is
-    (told_end texts order.policy (IsTable order profile) (LacksTable order profile) _ _ _ c.keeping-file.ensures.left
+    (told_end texts order.policy (IsTable order profile) (LacksTable order profile) _ _ _ c.source-file.ensures.left
     c.tell_rights-told.result c.tell_rights-told.ensures.table c.tell_rights-told.ensures.failure)
