@@ -118,8 +118,9 @@ BeginsStatus (status.Kind inode kind) s = (s.inode ≡ inode) × (s.kind ≡ kin
 BeginsStatus (status.Size inode kind size) s = (s.inode ≡ inode) × (s.kind ≡ kind) × (s.size ≡ size)
 BeginsStatus (status.Whole given) s = s ≡ given
 
+-- without a number, the tree's own refusal is meant: neither HistoryFull, NoMemory nor BadLine
 abbrev pub BeginsRefusal : RefusalWords → Errno → Type 0
-BeginsRefusal refusal.Nothing errno = ⊤
+BeginsRefusal refusal.Nothing errno = errno_number errno ≤ 20
 BeginsRefusal (refusal.Number number) errno = errno_number errno ≡ number
 BeginsRefusal (refusal.Whole given) errno = errno ≡ given
 

@@ -348,7 +348,7 @@ impl RefusalWords {
         ensures { IsTrue result ↔ BeginsRefusal self errno }
     {
         match self {
-            RefusalWords::Nothing => true,
+            RefusalWords::Nothing => errno.number() <= 20,
             RefusalWords::Number(number) => errno.number() == number,
             RefusalWords::Whole(given) => errno == given,
         }
