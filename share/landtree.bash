@@ -53,7 +53,7 @@ _landtree() {
         options="--port --workers --connections --idle --room --log --nodes --abi --history --policy --profile --save --explain --terse --help"
         ;;
     export)
-        options="--policy --profile --as --root --also --follow --deny --exact --best-effort --checked --explain --terse --help"
+        options="--policy --profile --as --root --also --follow --deny --best-effort --checked --explain --terse --help"
         ;;
     help) options="run audit schedule rights why learn check serve export" ;;
     *) return ;;

@@ -28,7 +28,6 @@ pub enum Misfit<'a> {
     LinesTurned(u64, u64),
     NoSuchForm,
     NoSuchDenial,
-    ExactBestEffort,
     /// The path after this option isn't absolute.
     RelativePath(&'static str, &'a str),
     /// The form of an answer.
@@ -110,7 +109,6 @@ impl Display for Misfit<'_> {
             Misfit::NoSuchDenial => f.write_str(
                 "--deny is followed by some of tcp,ioctl_dev,signal,abstract_unix_socket",
             ),
-            Misfit::ExactBestEffort => f.write_str("--exact and --best-effort don't go together"),
             Misfit::RelativePath(option, path) => {
                 write!(
                     f,
@@ -270,8 +268,6 @@ impl<'a> Misfit<'a> {
             Some(Misfit::NoSuchForm)
         } else if options.deny.is_none() {
             Some(Misfit::NoSuchDenial)
-        } else if options.exact && options.best_effort {
-            Some(Misfit::ExactBestEffort)
         } else {
             of_paths("--root", options.root.as_slice()).or(of_paths("--also", &options.also))
         }

@@ -70,7 +70,6 @@ c_denied denied = concat (
 abbrev pub c_options : ExportOrder → List ℕ
 c_options order = concat (
     c_option (codes "FOLLOW") order.follow
-    ∷ c_option (codes "EXACT") order.exact
     ∷ c_option (codes "BEST_EFFORT") order.best_effort
     ∷ c_denied (unwrap_or order.deny nothing_denied)
     ∷ [])

@@ -41,7 +41,6 @@ json_denied denied = concat (
 abbrev pub json_options : ExportOrder → List ℕ
 json_options order = concat (
     codes "  \"follow\": " ∷ json_flag order.follow
-    ∷ codes ",\n  \"exact\": " ∷ json_flag order.exact
     ∷ codes ",\n  \"best_effort\": " ∷ json_flag order.best_effort
     ∷ codes ",\n  \"deny\": " ∷ json_denied (unwrap_or order.deny nothing_denied) ∷ codes ",\n" ∷ [])
 

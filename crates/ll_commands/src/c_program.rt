@@ -177,17 +177,11 @@ fn c_options(alloc: Global, options: &ExportOptions) -> Result<String, AllocErro
     ensures { IfOk result (λ text. string_bytes text ≡ c_options (exported_in options.now)) }
 {
     let follow = c_option(alloc, "FOLLOW", options.follow)?;
-    let exact = c_option(alloc, "EXACT", options.exact)?;
     let best_effort = c_option(alloc, "BEST_EFFORT", options.best_effort)?;
     let denied = c_denied(alloc, options.deny.unwrap_or(Denied::NOTHING))?;
     concat(
         alloc,
-        &[
-            follow.as_str(),
-            exact.as_str(),
-            best_effort.as_str(),
-            denied.as_str(),
-        ],
+        &[follow.as_str(), best_effort.as_str(), denied.as_str()],
     )
 }
 

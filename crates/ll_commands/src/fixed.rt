@@ -113,13 +113,13 @@ static uint64_t set_of(const char *rights)
     return set;
 }
 
-/* The rights that are in both sets. It says which others are cut, and why; where none may be cut, it ends there. */
-static uint64_t cut(uint64_t set, uint64_t known, int may_cut, const char *what, const char *why)
+/* What this kernel knows of the set. It names the other rights, and goes on only with --best-effort. */
+static uint64_t known_among(uint64_t set, uint64_t known)
 {
     for (int number = 0; number < NAMES; number++)
         if ((set & ~known) >> number & 1)
-            say(\"%s can't have %s: %s\", what, names[number], why);
-    if (!may_cut && (set & ~known))
+            say(\"a layer can't have %s: this kernel doesn't know it\", names[number]);
+    if (!BEST_EFFORT && (set & ~known))
         exit(125);
     return set & known;
 }
@@ -222,8 +222,6 @@ static void add_row(int ruleset, int top, const struct row *row, uint64_t handle
         say(\"%s is %s here, and %s in the policy\", row->path, type_name(type), type_name(row->type));
         exit(125);
     }
-    if (type != S_IFDIR)
-        set = cut(set, of_files, !EXACT, row->path, \"it is no directory\");
     add_rule(ruleset, fd, set, row->path);
 }
 
@@ -267,7 +265,7 @@ pub const TAIL: &str =
 static const struct row *enforce(const struct row *row, int top, uint64_t known, int *layers)
 {
     struct ruleset layer = {
-        .handled_access_fs = cut(set_of(row->rights), known, BEST_EFFORT, \"a layer\", \"this kernel doesn't know it\"),
+        .handled_access_fs = known_among(set_of(row->rights), known),
     };
     int ruleset = layer.handled_access_fs ? create_ruleset(&layer) : -1;
 

@@ -140,8 +140,6 @@ fn json_options(alloc: Global, options: &ExportOptions) -> Result<String, AllocE
         &[
             "  \"follow\": ",
             json_flag(options.follow),
-            ",\n  \"exact\": ",
-            json_flag(options.exact),
             ",\n  \"best_effort\": ",
             json_flag(options.best_effort),
             ",\n  \"deny\": ",

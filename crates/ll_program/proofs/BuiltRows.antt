@@ -153,7 +153,7 @@ abbrev pub export_built : Shape
 export_built = with_built export.top
     (filled (needed (codes "policy")) ∷ filled (needed (codes "profile")) ∷ filled (needed (codes "as"))
     ∷ filled (valued (codes "root")) ∷ filled (repeated (codes "also")) ∷ filled (flag (codes "follow"))
-    ∷ filled (valued (codes "deny")) ∷ filled (flag (codes "exact")) ∷ filled (flag (codes "best-effort"))
+    ∷ filled (valued (codes "deny")) ∷ filled (flag (codes "best-effort"))
     ∷ filled (repeated (codes "checked")) ∷ help_built ∷ [])
 
 abbrev pub why_built : Shape
@@ -501,11 +501,8 @@ export_keeps p a e = found_there (Keeps Good) p export_built.rules a (
             (
               valued_keeps (codes "deny") refl,
               (
-                flag_keeps (codes "exact") refl,
-                (
-                  flag_keeps (codes "best-effort") refl,
-                  (repeated_keeps (codes "checked") refl, (help_keeps, tt)),
-                ),
+                flag_keeps (codes "best-effort") refl,
+                (repeated_keeps (codes "checked") refl, (help_keeps, tt)),
               ),
             ),
           ),

@@ -176,8 +176,8 @@ together_served at threads all megabytes n most idle level log policy profile sa
 
 -- the same of an export
 abbrev pub together_exported : Option Text → Option Text → Option Form → Option Text → List Text → Bool → Option Denied
-    → (exact effort : Bool) → List Text → Option ExportOrder
-together_exported file name form root told follow deny exact effort files =
+    → (effort : Bool) → List Text → Option ExportOrder
+together_exported file name form root told follow deny effort files =
     option_and_then (λ p. option_map (λ q. record {
       policy = p;
       profile = q;
@@ -186,7 +186,6 @@ together_exported file name form root told follow deny exact effort files =
       also = told;
       follow = follow;
       deny = deny;
-      exact = exact;
       best_effort = effort;
       checked = files;
     }) name) file
@@ -246,9 +245,9 @@ pub whole_serve : (p w c b n m i l : Option ℕ) (log : Bool) (q r s : Option Te
 whole_serve p w c b n m i l log q r s at threads all room nodes most e f g k h j = rw (e, f, g, k, h, j) refl
 
 pub whole_export : (p q : Option Text) (form : Option Form) (root : Option Text) (told : List Text) (follow : Bool)
-    (deny : Option Denied) (exact effort : Bool) (files : List Text) (file name : Text) → p ≡ Some file → q ≡ Some name
-    → is_some (together_exported p q form root told follow deny exact effort files) ≡ true
-whole_export p q form root told follow deny exact effort files file name e f = rw (e, f) refl
+    (deny : Option Denied) (effort : Bool) (files : List Text) (file name : Text) → p ≡ Some file → q ≡ Some name
+    → is_some (together_exported p q form root told follow deny effort files) ≡ true
+whole_export p q form root told follow deny effort files file name e f = rw (e, f) refl
 
 pub whole_why : (p : Option (List Text)) (n : Option ℕ) (q r : Option Text) (form : Option AnswerForm)
     (told : List Text) (nodes : ℕ) → p ≡ Some told → n ≡ Some nodes

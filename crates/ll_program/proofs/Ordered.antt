@@ -266,10 +266,7 @@ export_ends = ends_in export_built export_keeps (
             flag_default (codes "follow") refl,
             (
               tt,
-              (
-                flag_default (codes "exact") refl,
-                (flag_default (codes "best-effort") refl, (tt, (tt, tt))),
-              ),
+              (flag_default (codes "best-effort") refl, (tt, (tt, tt))),
             ),
           ),
         ),
@@ -351,7 +348,7 @@ export_wanted rest e =
     let told = both_given (is_given (codes "policy") rows) (is_given (codes "profile") rows) _ ends.2 in
     let policy = text_of rows ends.0 (codes "policy") told.0 in
     let profile = text_of rows ends.0 (codes "profile") told.1 in
-    whole_export _ _ _ _ _ _ _ _ _ _ policy.0 profile.0 policy.1 profile.1
+    whole_export _ _ _ _ _ _ _ _ _ policy.0 profile.0 policy.1 profile.1
 
 why_wanted : (rest : List Text) → level_fault why_built [] nothing_held rest false [] ≡ []
     → is_some (why_order (rows_after why_built.rules [] rest)) ≡ true

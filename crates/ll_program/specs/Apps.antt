@@ -143,8 +143,8 @@ repeated name = record (valued name) { action = Some Append }
 abbrev pub export : App
 export = fold with_rule (new_app (codes "export"))
     (needed (codes "policy") ∷ needed (codes "profile") ∷ needed (codes "as") ∷ valued (codes "root")
-    ∷ repeated (codes "also") ∷ flag (codes "follow") ∷ valued (codes "deny") ∷ flag (codes "exact")
-    ∷ flag (codes "best-effort") ∷ repeated (codes "checked") ∷ [])
+    ∷ repeated (codes "also") ∷ flag (codes "follow") ∷ valued (codes "deny") ∷ flag (codes "best-effort")
+    ∷ repeated (codes "checked") ∷ [])
 
 -- a history and a number, or a command
 abbrev pub words : Rule

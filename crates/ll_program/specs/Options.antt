@@ -92,7 +92,6 @@ pub record ExportOrder : Type 0 where
   pub also : List Text
   pub follow : Bool
   pub deny : Option Denied
-  pub exact : Bool
   pub best_effort : Bool
   pub checked : List Text
 
@@ -204,7 +203,6 @@ exported_in o =
       also = map (λ t. t.now) o.also.items;
       follow = o.follow;
       deny = o.deny;
-      exact = o.exact;
       best_effort = o.best_effort;
       checked = map (λ t. t.now) o.checked.items;
     }
@@ -390,7 +388,6 @@ export_order rows =
       also = unwrap_or (all_of (codes "also") rows) [];
       follow = is_set (codes "follow") rows;
       deny = denied_of (first_of (codes "deny") rows);
-      exact = is_set (codes "exact") rows;
       best_effort = is_set (codes "best-effort") rows;
       checked = unwrap_or (all_of (codes "checked") rows) [];
     })
@@ -488,11 +485,10 @@ fits_serve o = go_together o.level o.policy o.profile && not (names_input o.save
 abbrev pub is_absolute : Text → Bool
 is_absolute path = starts_with nat_eq path (codes "/")
 
--- the words after `--as` and `--deny` exist, paths are absolute, and `--exact` and `--best-effort` aren't both given
+-- the words after `--as` and `--deny` exist, and paths are absolute
 abbrev pub fits_export : ExportOrder → Bool
 fits_export o = (is_some o.form && is_some o.deny)
-    && (not (o.exact && o.best_effort)
-    && (is_absolute (unwrap_or o.root (codes "/")) && list_all is_absolute o.also))
+    && (is_absolute (unwrap_or o.root (codes "/")) && list_all is_absolute o.also)
 
 -- the profile must pass checks
 abbrev pub is_checked : ExportOrder → Bool

@@ -489,11 +489,6 @@ fn export_command<'a>(alloc: Global) -> Result<Command<'a>, AllocError>
         ),
         flag(
             alloc,
-            "exact",
-            "Refuse to run if a rule's rights would be cut because its path isn't a directory",
-        ),
-        flag(
-            alloc,
             "best-effort",
             "Run with what the kernel can enforce, instead of refusing to run",
         ),

@@ -48,8 +48,6 @@ pub struct ExportOptions<'a> {
     pub follow: bool,
     /// What the program denies apart from rights on files; None if the list has an unknown word.
     pub deny: Option<Denied>,
-    /// Whether the program refuses to run if a rule's rights would be cut because its path isn't a directory.
-    pub exact: bool,
     /// Whether the program goes on with the layers that the kernel knows.
     pub best_effort: bool,
     /// Files of checks that the profile must pass.
@@ -117,7 +115,6 @@ impl<'a> ExportOptions<'a> {
         let root = export.get_str("root");
         let follow = CheckOptions::is_set(export, "follow");
         let deny = ExportOptions::deny_of(export);
-        let exact = CheckOptions::is_set(export, "exact");
         let best_effort = CheckOptions::is_set(export, "best-effort");
         Ok(Some(ExportOptions {
             policy,
@@ -127,7 +124,6 @@ impl<'a> ExportOptions<'a> {
             also,
             follow,
             deny,
-            exact,
             best_effort,
             checked,
         }))
@@ -140,13 +136,11 @@ impl<'a> ExportOptions<'a> {
         !self.checked.is_empty()
     }
 
-    /// Reports whether the options fit together: the words of `--as` and `--deny` are known, paths are absolute, and
-    /// `--exact` and `--best-effort` aren't both given.
+    /// Reports whether the options fit together: the words of `--as` and `--deny` are known, and paths are absolute.
     pub fn fit(&self) -> bool
         ensures { result ≡ fits_export (exported_in self.now) }
     {
         (self.form.is_some() && self.deny.is_some())
-            && (!(self.exact && self.best_effort)
-                && (is_absolute(self.root.unwrap_or("/")) && are_absolute(self.also.as_slice())))
+            && (is_absolute(self.root.unwrap_or("/")) && are_absolute(self.also.as_slice()))
     }
 }

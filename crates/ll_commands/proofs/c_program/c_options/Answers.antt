@@ -11,14 +11,12 @@ returns c =
     let o = c.args.options.now in
     let follow : c.as_str.result.now ≡ c_option (codes "FOLLOW") o.follow =
     c.as_str.ensures.value ∙ c.in_ok-follow.ensures in
-    let exact : c.as_str-2.result.now ≡ c_option (codes "EXACT") o.exact =
-    c.as_str-2.ensures.value ∙ c.in_ok-exact.ensures in
-    let effort : c.as_str-3.result.now ≡ c_option (codes "BEST_EFFORT") o.best_effort =
-    c.as_str-3.ensures.value ∙ c.in_ok-best_effort.ensures in
-    let denied : c.as_str-4.result.now ≡ c_denied (unwrap_or o.deny nothing_denied) =
-    c.as_str-4.ensures.value ∙ c.in_ok-denied.ensures ∙ ap c_denied c.unwrap_or.ensures in
+    let effort : c.as_str-2.result.now ≡ c_option (codes "BEST_EFFORT") o.best_effort =
+    c.as_str-2.ensures.value ∙ c.in_ok-best_effort.ensures in
+    let denied : c.as_str-3.result.now ≡ c_denied (unwrap_or o.deny nothing_denied) =
+    c.as_str-3.ensures.value ∙ c.in_ok-denied.ensures ∙ ap c_denied c.unwrap_or.ensures in
     IfOk-weaker c.concat.result _ _ (λ text e. e
-    ∙ ap₂ (λ f x. concat (f ∷ x ∷ c.as_str-3.result.now ∷ c.as_str-4.result.now ∷ [])) follow exact
-    ∙ ap₂ (λ b d. concat (c_option (codes "FOLLOW") o.follow ∷ c_option (codes "EXACT") o.exact ∷ b ∷ d ∷ []))
-    effort denied)
+    ∙ ap₂ (λ f b. concat (f ∷ b ∷ c.as_str-3.result.now ∷ [])) follow effort
+    ∙ ap (λ d. concat (c_option (codes "FOLLOW") o.follow ∷ c_option (codes "BEST_EFFORT") o.best_effort ∷ d ∷ []))
+    denied)
     c.concat.ensures

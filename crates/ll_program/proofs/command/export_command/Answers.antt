@@ -17,8 +17,7 @@ returns-clause-app c =
     (ap₂ ◌∷◌ c.flag.ensures.rule
     (ap₂ ◌∷◌ c.valued-2.ensures.rule
     (ap₂ ◌∷◌ c.flag-2.ensures.rule
-    (ap₂ ◌∷◌ c.flag-3.ensures.rule
-    (ap₂ ◌∷◌ c.repeated-2.ensures.rule refl))))))))))
+    (ap₂ ◌∷◌ c.repeated-2.ensures.rule refl)))))))))
     c.command_of.ensures.app
 
 pub command_of-requires : goal.command_of-requires
@@ -37,7 +36,7 @@ command_of-requires c =
                 c.flag.ensures.local,
                 (
                   c.valued-2.ensures.local,
-                  (c.flag-2.ensures.local, (c.flag-3.ensures.local, (c.repeated-2.ensures.local, tt))),
+                  (c.flag-2.ensures.local, (c.repeated-2.ensures.local, tt)),
                 ),
               ),
             ),
