@@ -1,4 +1,4 @@
-"""The commands of this package: python3 -m landtree record, convert, learn, exec, try, lint."""
+"""The commands of this package: landtree-sandbox record, convert, learn, exec, try, lint."""
 
 from __future__ import annotations
 
@@ -8,6 +8,7 @@ import sys
 from pathlib import Path
 from typing import Callable, Dict, List, Optional, Sequence, Tuple
 
+from .command_line import COMMAND, TAKES_PROGRAM, parsed
 from .commands import Commands
 from .confine import NOT_CONFINED, NOT_RUN, NOT_THERE, NO_ENTRY, become, own_environment, prepare
 from .errors import Fault, LandtreeError, ProgramFault
@@ -130,134 +131,22 @@ def commands_of(options: argparse.Namespace) -> Commands:
     return Commands(options.program)
 
 
-# ---- words
-
-
-def map_of(text: str) -> Tuple[str, str]:
-    inner, sign, real = text.partition("=/")
-    if not sign or not inner.startswith("/") or "=/" in real:
-        raise argparse.ArgumentTypeError(f"/IN=/OUT is expected, with one sign =: {text}")
-    return inner, f"/{real}"
-
-
-def rights_of(text: str) -> Rights:
-    try:
-        return Rights.of(text)
-    except ValueError as error:
-        raise argparse.ArgumentTypeError(str(error)) from None
-
-
-def list_of(text: str) -> List[str]:
-    return text.split(",")
-
-
-def add_record(parser: argparse.ArgumentParser) -> None:
-    parser.add_argument("--to", metavar="LOG", default="run.log", help="a new file for the log [default: run.log]")
-    add_changes(parser)
-    help_text = "refer keeps the program from moves and links between directories"
-    parser.add_argument("--never", metavar="RIGHTS", type=rights_of, default=Rights.NONE, help=help_text)
-
-
-def add_convert(parser: argparse.ArgumentParser) -> None:
-    parser.add_argument("log", metavar="LOG", help="a log that `record` has made")
-    parser.add_argument("--nodes", metavar="FILE", help="for the policy's nodes [default: LOG with .nodes.toml]")
-    parser.add_argument("--checks", metavar="FILE", help="for the file of checks [default: LOG with .check]")
-    parser.add_argument("--whole", action="store_true", help="keep also the calls that ask for nothing new")
-    parser.add_argument("--replace", action="store_true", help="replace files that are there")
-
-
-def add_exec(parser: argparse.ArgumentParser) -> None:
-    add_program(parser)
-    parser.add_argument("--policy", metavar="FILE", required=True, help="a policy")
-    parser.add_argument("--profile", metavar="NAME", required=True, help="the profile whose layers are enforced")
-    parser.add_argument("--root", metavar="DIR", help="the directory that stands for the policy's root [default: /]")
-    help_text = "have a real directory stand for a directory of the policy"
-    parser.add_argument("--map", metavar="/IN=/OUT", type=map_of, action="append", default=[], help=help_text)
-    help_text = "a rule's path that may be missing"
-    parser.add_argument("--optional", metavar="PATH", action="append", default=[], help=help_text)
-    parser.add_argument("--also", metavar="PATH", action="append", default=[], help="a path to read and execute too")
-    help_text = "a file of checks that must pass first"
-    parser.add_argument("--checked", metavar="FILE", action="append", default=[], help=help_text)
-    parser.add_argument("--follow", action="store_true", help="follow links on the paths of rules")
-    parser.add_argument("--exact", action="store_true", help="refuse a rule that would be cut")
-    parser.add_argument("--best-effort", action="store_true", help="enforce what the kernel knows")
-    add_deny(parser)
-
-
-def add_try(parser: argparse.ArgumentParser) -> None:
-    add_program(parser)
-    help_text = "a new directory for the log, the policy and the checks [default: landtree.try]"
-    parser.add_argument("--to", metavar="DIR", default="landtree.try", help=help_text)
-    add_changes(parser)
-    add_learning(parser)
-    help_text = "run it the second time where it was run first, and not in a copy"
-    parser.add_argument("--in-place", action="store_true", help=help_text)
-    add_deny(parser)
-
-
-def add_learn(parser: argparse.ArgumentParser) -> None:
-    add_program(parser)
-    parser.add_argument("files", metavar="CHECKS", nargs="+", help="files of checks, as `convert` makes them")
-    parser.add_argument("--policy", metavar="FILE", required=True, help="a policy with the nodes that are there first")
-    add_learning(parser)
-
-
-def add_learning(parser: argparse.ArgumentParser) -> None:
-    parser.add_argument("--name", default="learned", help="the profile's name [default: learned]")
-    parser.add_argument("--never", metavar="RIGHTS", type=rights_of, default=Rights.NONE, help="rights never to grant")
-    help_text = "a directory whose files share one rule"
-    parser.add_argument("--beneath", metavar="DIR", action="append", default=[], help=help_text)
-    parser.add_argument("--most", metavar="N", type=int, help="the most rules")
-
-
-def add_lint(parser: argparse.ArgumentParser) -> None:
-    add_program(parser)
-    parser.add_argument("policy", metavar="POLICY", help="a policy")
-
-
-def add_changes(parser: argparse.ArgumentParser) -> None:
-    help_text = "a directory whose files the program may change, beside the working directory"
-    parser.add_argument("--changes", metavar="DIR", action="append", default=[], help=help_text)
-
-
-def add_program(parser: argparse.ArgumentParser) -> None:
-    help_text = "the program landtree [default: as on the PATH]"
-    parser.add_argument("--program", metavar="FILE", default="landtree", help=help_text)
-
-
-def add_deny(parser: argparse.ArgumentParser) -> None:
-    help_text = "any of tcp, ioctl_dev, signal and abstract_unix_socket, with commas between"
-    parser.add_argument("--deny", metavar="LIST", type=list_of, default=[], help=help_text)
-
-
-Add = Callable[[argparse.ArgumentParser], None]
-COMMANDS: Dict[str, Tuple[Callable[[argparse.Namespace], int], Add, str]] = {
-    "record": (run_record, add_record, "Runs a program under strace and keeps the log"),
-    "convert": (run_convert, add_convert, "Turns a log into a policy's nodes and a file of checks"),
-    "learn": (run_learn, add_learn, "Prints the profile under which the tests of files of checks pass"),
-    "exec": (run_exec, add_exec, "Runs a program under a profile's layers, by the kernel's Landlock"),
-    "try": (run_try, add_try, "Records a program, learns its profile, and runs it under this profile"),
-    "lint": (run_lint, add_lint, "Looks in a policy for what its author may not want"),
+COMMANDS: Dict[str, Callable[[argparse.Namespace], int]] = {
+    "record": run_record,
+    "convert": run_convert,
+    "learn": run_learn,
+    "exec": run_exec,
+    "try": run_try,
+    "lint": run_lint,
 }
-TAKES_PROGRAM = ("record", "exec", "try")
 
 
-def parsed(words: Sequence[str]) -> argparse.Namespace:
-    """Returns the options of a command. The program's words come after `--`, and are never taken for options."""
-    before, after = list(words), []
-    if words[:1] and words[0] in TAKES_PROGRAM and "--" in words:
-        place = words.index("--")
-        before, after = list(words[:place]), list(words[place + 1 :])
-    parser = argparse.ArgumentParser(prog="python3 -m landtree", allow_abbrev=False)
-    commands = parser.add_subparsers(dest="command", metavar="COMMAND", required=True)
-    for name, (_, add, text) in COMMANDS.items():
-        usage = f"python3 -m landtree {name} [OPTION].. -- PROGRAM [WORD].." if name in TAKES_PROGRAM else None
-        add(commands.add_parser(name, help=text, description=text, usage=usage, allow_abbrev=False))
-    options = parser.parse_args(before)
-    if options.command in TAKES_PROGRAM and not after:
-        parser.error(f"{options.command}: -- and a program are needed at the end")
-    options.words = after
-    return options
+def need_safe_modules(command: str) -> None:
+    """Raises `Fault` if Python takes modules from the working directory, where a confined program may leave some."""
+    here = "" if sys.flags.isolated else os.path.realpath(os.getcwd())
+    if here and here in [os.path.realpath(it) for it in sys.path]:
+        why = "Python takes modules from the working directory here, and a confined program may leave some there"
+        raise Fault(f"{why}: use the command {COMMAND} {command}")
 
 
 def main(words: Optional[Sequence[str]] = None) -> int:
@@ -266,7 +155,8 @@ def main(words: Optional[Sequence[str]] = None) -> int:
     fails_with = NOT_CONFINED if words[:1] and words[0] in TAKES_PROGRAM else USAGE
     try:
         options = parsed(words)
-        return COMMANDS[options.command][0](options)
+        need_safe_modules(options.command)
+        return COMMANDS[options.command](options)
     except SystemExit as end:
         return 0 if not end.code else fails_with
     except LandtreeError as fault:

@@ -34,7 +34,7 @@ from .values import Rights
 
 PACKAGE = Path(__file__).resolve().parent.parent
 # Runs this very package in another directory, without a change to the environment.
-ENTRY = "import sys; sys.path.insert(0, sys.argv.pop(1)); from landtree.__main__ import main; sys.exit(main())"
+ENTRY = "import sys; sys.path.append(sys.argv.pop(1)); from landtree.__main__ import main; sys.exit(main())"
 MOST_FILES, MOST_BYTES = 100_000, 1 << 30
 REFUSED = ("EACCES", "EXDEV")
 ENFORCED = "landlock_restrict_self"

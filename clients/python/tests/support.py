@@ -18,7 +18,9 @@ from landtree import Fault, landlock  # noqa: E402
 # The program, which test_package.py sets.
 PROGRAM = os.environ.get("LANDTREE_PROGRAM", str(TOP / "crates/landtree/out/landtree"))
 LONGEST = 120
-ENVIRONMENT = {**os.environ, "PYTHONPATH": str(PACKAGE), "PYTHONDONTWRITEBYTECODE": "1"}
+# The command as its first line starts it, by this very Python.
+COMMAND = [sys.executable, "-I", "-S", str(PACKAGE / "landtree-sandbox")]
+ENVIRONMENT = dict(os.environ)
 
 
 def can_trace():
@@ -65,15 +67,15 @@ class Case(unittest.TestCase):
             call(*words, **options)
         self.assertEqual(str(caught.exception), text)
 
-    def run_module(self, *words, **how):
+    def run_command(self, *words, **how):
         """Runs the package's commands as a user does."""
         how = {"cwd": self.room, "env": ENVIRONMENT, "timeout": LONGEST, **how}
         how = {"capture_output": True, "text": True, "stdin": subprocess.DEVNULL, **how}
-        return subprocess.run([sys.executable, "-m", "landtree", *map(os.fspath, words)], check=False, **how)
+        return subprocess.run([*COMMAND, *map(os.fspath, words)], check=False, **how)
 
-    def signalled_module(self, number, *words, **how):
+    def signalled_command(self, number, *words, **how):
         """Sends a command a signal once its program has written a line, and returns its status and its last line."""
-        call = [sys.executable, "-m", "landtree", *map(os.fspath, words)]
+        call = [*COMMAND, *map(os.fspath, words)]
         pipes = {"stdout": subprocess.PIPE, "stderr": subprocess.PIPE, "stdin": subprocess.DEVNULL}
         with subprocess.Popen(call, **{"cwd": self.room, "env": ENVIRONMENT, "text": True, **pipes, **how}) as child:
             child.stdout.readline()

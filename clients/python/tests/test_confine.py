@@ -2,7 +2,6 @@
 
 import os
 import socket
-import sys
 from unittest import mock
 
 from tests.support import PROGRAM, Case, needs_landlock
@@ -135,7 +134,7 @@ class Executing(Case):
     def run_exec(self, *words, options=(), **how):
         file = self.put("policy.toml", self.policy.dumps())
         call = ["exec", "--program", PROGRAM, "--policy", file, "--profile", "p", *options, "--", *words]
-        return self.run_module(*call, **how)
+        return self.run_command(*call, **how)
 
     def shell(self, script, **how):
         """Returns what a script of the shell writes to both streams, in the test's directory."""
@@ -206,11 +205,11 @@ class Confined(Executing):
             self.assertEqual((ended.returncode, ended.stdout), (125, ""), options)
             self.assertNotEqual(ended.stderr, "")
         for words in (["exec"], ["exec", "--"], ["exec", "--policy", "p", "echo", "ran"]):
-            self.assertEqual(self.run_module(*words).returncode, 125)
+            self.assertEqual(self.run_command(*words).returncode, 125)
 
     def test_no_program_landtree(self):
         call = ["exec", "--program", self.room / "none", "--policy", "p", "--profile", "p", "--", "echo", "ran"]
-        ended = self.run_module(*call)
+        ended = self.run_command(*call)
         self.assertEqual((ended.returncode, ended.stdout), (125, ""))
         self.assertEqual(ended.stderr, f"landtree: {self.room}/none: No such file or directory\n")
 
@@ -219,7 +218,7 @@ class Confined(Executing):
             fake = self.put("fake", f"#!/bin/sh\necho '{text}'\n")
             fake.chmod(0o755)
             call = ["exec", "--program", fake, "--policy", "p", "--profile", "p", "--", "echo", "ran"]
-            ended = self.run_module(*call)
+            ended = self.run_command(*call)
             self.assertEqual((ended.returncode, ended.stdout, ended.stderr.count("\n")), (125, "", 1))
 
     def test_words_after_the_program_are_its_own(self):
@@ -227,7 +226,7 @@ class Confined(Executing):
 
     def test_signals_and_environment(self):
         self.assertEqual(self.run_exec("grep", "SigIgn", "/proc/self/status").stdout, f"SigIgn:\t{0:016x}\n")
-        environment = {"PATH": os.environ["PATH"], "PYTHONPATH": str(sys.path[0]), "A": "b"}
+        environment = {"PATH": os.environ["PATH"], "PYTHONPATH": "/none", "A": "b"}
         lines = self.run_exec("env", env=environment).stdout.split()
         self.assertEqual(sorted(lines), sorted(f"{name}={value}" for name, value in environment.items()))
 

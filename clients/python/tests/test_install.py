@@ -43,8 +43,15 @@ class Package(Case):
         without = lambda names: {it for it in names if "__pycache__" not in it}  # noqa: E731
         self.assertEqual(without(found), without(wanted))
         self.assertTrue((self.room / "to/landtree/py.typed").exists())
-        ended = self.run_module("--help", env={**os.environ, "PYTHONPATH": str(self.room / "to")})
-        self.assertEqual(ended.returncode, 0, ended.stderr)
+        command = self.room / "to/bin/landtree-sandbox"
+        self.assertEqual(command.read_bytes(), (PACKAGE / "landtree-sandbox").read_bytes())
+        self.put("here/landtree/__main__.py", "print('left here')\n")
+        self.put("here/sitecustomize.py", "print('left here')\n")
+        path = f"{os.path.dirname(sys.executable)}:{os.environ['PATH']}"
+        how = {"cwd": self.room / "here", "env": {**os.environ, "PATH": path, "PYTHONPATH": "."}, "text": True}
+        ended = subprocess.run([command, "lint", "none"], capture_output=True, check=False, **how)
+        said = "landtree: none: No such file or directory\n"
+        self.assertEqual((ended.returncode, ended.stdout, ended.stderr), (2, "", said))
 
     def test_one_version(self):
         text = (PACKAGE / "pyproject.toml").read_text(encoding="utf-8")

@@ -15,6 +15,7 @@ POLICY = TOP / "examples/build-service.toml"
 # Runs the package's commands under as many layers as a process may have; each denies make_char.
 UNDER_LAYERS = """
 import contextlib, sys
+sys.path.append(sys.argv.pop(1))
 from landtree import landlock
 from landtree.__main__ import main
 with contextlib.suppress(OSError):
@@ -26,11 +27,11 @@ sys.exit(main())
 
 class Words(Case):
     def test_help(self):
-        ended = self.run_module("--help")
+        ended = self.run_command("--help")
         self.assertEqual(ended.returncode, 0)
         for command in ("record", "convert", "learn", "exec", "try", "lint"):
             self.assertIn(f"\n    {command} ", ended.stdout)
-            self.assertEqual(self.run_module(command, "--help").returncode, 0)
+            self.assertEqual(self.run_command(command, "--help").returncode, 0)
 
     def test_wrong_words(self):
         for words, status in {
@@ -47,51 +48,51 @@ class Words(Case):
             ("try", "--never", "x", "--", "true"): 125,
             ("exec", "--", "true"): 125,
         }.items():
-            ended = self.run_module(*words)
+            ended = self.run_command(*words)
             self.assertEqual((ended.returncode, ended.stdout), (status, ""), words)
             self.assertNotIn("Traceback", ended.stderr)
         self.assertEqual(list(self.room.iterdir()), [])
 
     def test_lint(self):
-        ended = self.run_module("lint", POLICY, "--program", PROGRAM)
+        ended = self.run_command("lint", POLICY, "--program", PROGRAM)
         self.assertEqual((ended.returncode, ended.stderr), (3, ""))
         text = f"{POLICY}: profile build: /build: a file in it can be written and then executed"
         self.assertIn(text, ended.stdout.splitlines())
-        ended = self.run_module("lint", "none")
+        ended = self.run_command("lint", "none")
         self.assertEqual((ended.returncode, ended.stderr), (2, "landtree: none: No such file or directory\n"))
 
     def test_learn(self):
         nodes = self.put("n.toml", 'version = 2\nabi = 3\n[[node]]\npath = "/f"\nkind = "reg"\n')
         checks, more = self.put("c.check", "open r /f = fd 0\n"), self.put("d.check", "open w /f = fd 0\n")
-        ended = self.run_module("learn", checks, more, "--policy", nodes, "--name", "p", "--program", PROGRAM)
+        ended = self.run_command("learn", checks, more, "--policy", nodes, "--name", "p", "--program", PROGRAM)
         self.assertEqual(ended.returncode, 0, ended.stderr)
         (layer,) = load_policy(nodes.read_text() + ended.stdout).profiles["p"]
         self.assertEqual(layer, Layer(Rights.ALL, [Rule("/f", Rights.READ_FILE | Rights.WRITE_FILE)]))
         checks.write_text("open r /g = fd 0\n")
-        ended = self.run_module("learn", checks, "--policy", nodes, "--program", PROGRAM)
+        ended = self.run_command("learn", checks, "--policy", nodes, "--program", PROGRAM)
         said = f"landtree: {checks}:1: open r /g: expected fd 0, got refused 3 ENOENT\n"
         self.assertEqual((ended.returncode, ended.stdout, ended.stderr), (2, "", said))
         checks.write_text("open r /f\nmake reg /g\n")
         words = ["--policy", nodes, "--most", "1", "--program", PROGRAM]
         said = "landtree: 2 rules, 1 may be: --most 256, or --beneath DIR\n"
-        self.assertEqual(self.run_module("learn", checks, *words).stderr, said)
+        self.assertEqual(self.run_command("learn", checks, *words).stderr, said)
         words[3] = "0"
-        ended = self.run_module("learn", checks, *words)
+        ended = self.run_command("learn", checks, *words)
         self.assertEqual((ended.returncode, ended.stdout), (2, ""))
         self.assertIn("0 is not in 1..=256", ended.stderr)
 
     def test_bytes_that_steer_a_terminal(self):
-        ended = self.run_module("lint", "a\x1b[2J\nb")
+        ended = self.run_command("lint", "a\x1b[2J\nb")
         self.assertEqual(ended.stderr, "landtree: a\\x1b[2J; b: No such file or directory\n")
 
 
 @needs_strace
 class Recording(Case):
     def record(self, *words, **how):
-        return self.run_module("record", *words, **how)
+        return self.run_command("record", *words, **how)
 
     def convert(self, *words):
-        return self.run_module("convert", "run.log", *words)
+        return self.run_command("convert", "run.log", *words)
 
     def test_a_program(self):
         ended = self.record("--", "sh", "-c", "echo hello; echo x >f; exit 3")
@@ -123,8 +124,8 @@ class Recording(Case):
         other = self.put("other/f").parent
         self.put("here/x")
         words = ["record", "--changes", other, "--", "sh", "-c", "rm ../other/f; echo x >../other/f"]
-        self.assertEqual(self.run_module(*words, cwd=self.room / "here").returncode, 0)
-        self.run_module("convert", "run.log", cwd=self.room / "here")
+        self.assertEqual(self.run_command(*words, cwd=self.room / "here").returncode, 0)
+        self.run_command("convert", "run.log", cwd=self.room / "here")
         checks = (self.room / "here/run.check").read_text().splitlines()
         self.assertEqual([it for it in checks if "other" in it], [f"unlink {other}/f", f"open wc {other}/f = fd 0"])
 
@@ -157,7 +158,7 @@ class Recording(Case):
             "another strace": "strace: it doesn't say which version it is, and 5.3 or later is needed",
         }.items():
             self.put("bin/strace", f"#!/bin/sh\necho '{version}'\n").chmod(0o755)
-            path = {**os.environ, "PYTHONPATH": str(PACKAGE), "PATH": f"{self.room}/bin:{os.environ['PATH']}"}
+            path = {**os.environ, "PATH": f"{self.room}/bin:{os.environ['PATH']}"}
             ended = self.record("--", "touch", "ran", env=path)
             self.assertEqual((ended.returncode, ended.stderr), (125, f"landtree: {fault}\n"))
         path["PATH"] = f"{self.room}/none"
@@ -169,7 +170,7 @@ class Recording(Case):
     def test_a_strace_that_may_not_trace(self):
         text = '#!/bin/sh\n[ "$1" != -V ] || { echo "strace -- version 6.1"; exit; }\necho no >&2; exit 1\n'
         self.put("bin/strace", text).chmod(0o755)
-        path = {**os.environ, "PYTHONPATH": str(PACKAGE), "PATH": f"{self.room}/bin:{os.environ['PATH']}"}
+        path = {**os.environ, "PATH": f"{self.room}/bin:{os.environ['PATH']}"}
         ended = self.record("--", "touch", "ran", env=path)
         said = "no\nlandtree: run.log: strace has logged nothing, so the program wasn't run\n"
         self.assertEqual((ended.returncode, ended.stderr), (125, said))
@@ -207,7 +208,7 @@ class Recording(Case):
     @needs_landlock
     def test_never_refer_under_all_layers(self):
         ended = subprocess.run(
-            [sys.executable, "-c", UNDER_LAYERS, "record", "--never", "refer", "--", "touch", "ran"],
+            [sys.executable, "-I", "-c", UNDER_LAYERS, PACKAGE, "record", "--never", "refer", "--", "touch", "ran"],
             cwd=self.room, env=ENVIRONMENT, capture_output=True, text=True, timeout=LONGEST, check=False,
         )
         said = "landtree: the kernel enforces no layer on the program: a process has 16 at most\n"
@@ -226,10 +227,10 @@ class Recording(Case):
             log = f"{int(number)}.log"
             words = ["record", "--to", log, "--", "sh", "-c", "echo up; sleep 600; true"]
             said = f"landtree: {log}: the program has ended with status {status}"
-            self.assertEqual(self.signalled_module(number, *words), (128 + number, said))
-            self.assertEqual(self.run_module("convert", log).returncode, 0)
+            self.assertEqual(self.signalled_command(number, *words), (128 + number, said))
+            self.assertEqual(self.run_command("convert", log).returncode, 0)
         script = "trap 'sleep 0.3; echo end >end; exit 5' TERM; echo up; sleep 600 & wait"
-        self.assertEqual(self.signalled_module(signal.SIGTERM, "record", "--", "sh", "-c", script)[0], 5)
+        self.assertEqual(self.signalled_command(signal.SIGTERM, "record", "--", "sh", "-c", script)[0], 5)
         self.assertEqual((self.room / "end").read_text(), "end\n")
 
     def test_it_is_asked_to_end_early(self):
@@ -240,7 +241,7 @@ class Recording(Case):
         self.assertEqual((run.status, run.signal), (-15, signal.SIGTERM))
 
     def test_a_locale_and_signals_as_they_were(self):
-        environment = {"PATH": os.environ["PATH"], "PYTHONPATH": str(PACKAGE)}
+        environment = {"PATH": os.environ["PATH"], "A": "b"}
         ended = self.record("--", "env", env=environment)
         self.assertEqual(sorted(ended.stdout.split()), sorted(f"{k}={v}" for k, v in environment.items()))
         ended = self.record("--to", "two.log", "--", "grep", "SigIgn", "/proc/self/status")

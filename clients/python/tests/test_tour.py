@@ -15,7 +15,7 @@ class Touring(Case):
         self.home.mkdir()
 
     def tour(self, *words, **how):
-        return self.run_module("try", "--program", PROGRAM, *words, **{"cwd": self.home, **how})
+        return self.run_command("try", "--program", PROGRAM, *words, **{"cwd": self.home, **how})
 
     def test_a_program(self):
         (self.home / "f").write_text("one\n")
@@ -57,7 +57,7 @@ class Touring(Case):
         self.assertFalse((self.home / "ran").exists())
 
     def test_no_program(self):
-        ended = self.run_module("try", "--program", self.room / "none", "--", "touch", "ran", cwd=self.home)
+        ended = self.run_command("try", "--program", self.room / "none", "--", "touch", "ran", cwd=self.home)
         said = f"landtree: {self.room}/none: No such file or directory\n"
         self.assertEqual((ended.returncode, ended.stderr), (125, said))
         self.assertEqual(list(self.home.iterdir()), [])
@@ -66,7 +66,7 @@ class Touring(Case):
         text = '#!/bin/sh\n[ "$1" = --version ] && exit\necho "run.check:1: why" >&2\n'
         text += 'echo "  as it is" >&2\nexit 3\n'
         self.put("bad", text).chmod(0o755)
-        ended = self.run_module("try", "--program", self.room / "bad", "--", "touch", "ran", cwd=self.home)
+        ended = self.run_command("try", "--program", self.room / "bad", "--", "touch", "ran", cwd=self.home)
         checks, nodes = (f"{self.home}/landtree.try/{it}" for it in ("run.check", "nodes.toml"))
         again = f"`landtree learn {checks} --policy {nodes}` learns from this run again"
         said = f"landtree: {checks}: no profile is learned: run.check:1: why; as it is; {again}\n"
@@ -129,4 +129,4 @@ class Touring(Case):
     def test_it_is_asked_to_end(self):
         words = ["try", "--program", PROGRAM, "--", "sh", "-c", "echo up; sleep 600; true"]
         said = f"landtree: {self.home}/landtree.try/run.log: SIGTERM came, so no profile is learned"
-        self.assertEqual(self.signalled_module(signal.SIGTERM, *words, cwd=self.home), (125, said))
+        self.assertEqual(self.signalled_command(signal.SIGTERM, *words, cwd=self.home), (125, said))

@@ -64,7 +64,7 @@ class WholeWay(Case):
         """Records a program, and learns its profile."""
         self.fresh(trial)
         log = self.room / "run.log"
-        record_words = [sys.executable, "-c", ENTRY, PACKAGE, "record", "--to", log, "--", *trial.words]
+        record_words = [sys.executable, "-I", "-S", "-c", ENTRY, PACKAGE, "record", "--to", log, "--", *trial.words]
         self.run_words([os.fspath(it) for it in record_words])
         converted = convert(log)
         self.assertEqual(converted.told(), [])
