@@ -14,9 +14,10 @@ from .confine import NOT_CONFINED, NOT_RUN, NOT_THERE, NO_ENTRY, become, own_env
 from .errors import Fault, LandtreeError, ProgramFault
 from .lint import lint
 from .options import ExportOptions, LearnOptions
-from .tour import Tour, TourOptions, need_program, tour
+from .tour import Tour, TourOptions, ending_note, need_program, shell_status, tour
 from .trace import convert, record
 from .trace.conversion import names_beside
+from .trace.recording import Recording
 from .values import Rights
 
 FOUND, USAGE = 3, 2
@@ -41,11 +42,6 @@ def run_record(options: argparse.Namespace) -> int:
     return shell_status(ended.status or 0)
 
 
-def shell_status(status: int) -> int:
-    """Returns a status as a shell has it, also of a program that a signal has ended."""
-    return status if status >= 0 else 128 - status
-
-
 def run_convert(options: argparse.Namespace) -> int:
     nodes, checks = names_beside(options.log, options.nodes, options.checks)
     converted = convert(options.log, whole=options.whole)
@@ -65,7 +61,7 @@ def run_exec(options: argparse.Namespace) -> int:
         prepared = prepare(exported, options.map, options.optional)
     except Fault as fault:
         raise Fault(f"{options.policy}: profile {options.profile}: {fault}") from None
-    for line in prepared.told:
+    for line in [] if options.quiet else prepared.told:
         say(line)
     prepared.enforce()
     try:
@@ -76,7 +72,7 @@ def run_exec(options: argparse.Namespace) -> int:
 
 
 def export_options(options: argparse.Namespace) -> ExportOptions:
-    chosen = {it: getattr(options, it) for it in ("also", "checked", "follow", "exact", "best_effort")}
+    chosen = {it: getattr(options, it) for it in ("also", "checked", "follow", "best_effort")}
     return ExportOptions(root=options.root, deny=options.deny, **chosen)
 
 
@@ -84,10 +80,18 @@ def run_learn(options: argparse.Namespace) -> int:
     commands = commands_of(options)
     need_program(commands)
     learned = commands.learn(options.files, options.policy, learn_options(options))
-    sys.stdout.write(learned.profile)
+    sys.stdout.write(f"{ending_note([status_beside(it) for it in options.files])}{learned.profile}")
     for line in learned.hints.splitlines():
         say(line)
     return 0
+
+
+def status_beside(checks: str) -> Optional[int]:
+    """Returns the status with which a program has ended, if its recording is beside the checks under their name."""
+    try:
+        return Recording.load(Path(checks).with_suffix(".log")).status
+    except Fault:
+        return None
 
 
 def learn_options(options: argparse.Namespace) -> LearnOptions:
@@ -98,20 +102,20 @@ def run_try(options: argparse.Namespace) -> int:
     learning = learn_options(options)
     chosen = TourOptions(Path(options.to), options.changes, learning, options.deny, options.in_place)
     came = tour(options.words, chosen, commands_of(options))
-    is_well = came.status == came.recorded.status and not came.denied
     for line in tour_lines(came):
         say(line)
-    if not is_well and not options.in_place:
+    if not came.is_well and not options.in_place:
         say("the second run was in a copy of the working directory; --in-place has it in the directory itself")
-    return 0 if is_well else FOUND
+    return shell_status(came.recorded.status or 0) or (0 if came.is_well else FOUND)
 
 
 def tour_lines(came: Tour) -> List[str]:
     """Returns what is said of a tour."""
     rules = came.learned.profile.count(".layer.rule]]")
-    least = ", and each layer that lets it run so grants all that this one grants" if came.learned.is_least else ""
+    is_least = came.is_well and came.learned.is_least
+    least = ", and each layer that lets it run so grants all that this one grants" if is_least else ""
     lines = [*came.converted.told(), *(it.strip() for it in came.learned.hints.splitlines())]
-    lines += [f"it would be denied now: {it}" for it in came.denied]
+    lines += [f"it would be denied now: {it}" for it in came.denied] + came.differ + came.unknown
     first = came.recorded.status
     lines.append(f"without a layer the program has ended with status {first}, under the profile with {came.status}")
     lines.append(f"{came.policy}: the profile has {rules} rules{least}")

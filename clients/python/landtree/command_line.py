@@ -143,7 +143,6 @@ def add_exec(parser: Parser) -> None:
     add_list(parser, "--also", "PATH", "a path to read and execute too")
     add_list(parser, "--checked", "FILE", "a file of checks that must pass first")
     parser.add_argument("--follow", action="store_true", help="follow links on the paths of rules")
-    parser.add_argument("--exact", action="store_true", help="refuse a rule that would be cut")
     parser.add_argument("--best-effort", action="store_true", help="enforce what the kernel knows")
     parser.add_argument("--quiet", action="store_true", help="print faults only, no warnings")
     add_deny(parser)

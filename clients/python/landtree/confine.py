@@ -18,7 +18,7 @@ from . import landlock
 from .directories import REAL_KINDS
 from .errors import Fault
 from .exported import Exported, ExportedLayer, ExportedRule
-from .names import decoded
+from .places import Mapped, closing, need_fit, opened_below, telling
 from .values import FILE_RIGHTS, Rights
 
 ALSO = Rights.EXECUTE | Rights.READ_FILE | Rights.READ_DIR
@@ -26,25 +26,6 @@ ALSO = Rights.EXECUTE | Rights.READ_FILE | Rights.READ_DIR
 LEVEL_OF_DENIED = {"tcp": 4, "ioctl_dev": 5, "signal": 6, "abstract_unix_socket": 6}
 NO_ENTRY = (errno.ENOENT, errno.ENOTDIR)
 NOT_CONFINED, NOT_RUN, NOT_THERE = 125, 126, 127
-
-
-@dataclass(frozen=True)
-class Mapped:
-    """The real directories that stand for places of a policy.
-
-    `maps` has a policy's path and a real directory each; of two that fit, the longer path counts. `optional` has paths
-    of rules that may be missing.
-    """
-
-    root: str = "/"
-    maps: Sequence[Tuple[str, str]] = ()
-    optional: Sequence[str] = ()
-
-    def place(self, path: str) -> Tuple[str, str]:
-        """Returns the real directory below which a policy's path lies, and the rest of the path, both real."""
-        fitting = [it for it in self.maps if path == it[0] or path.startswith(it[0].rstrip("/") + "/")]
-        inner, real = max(fitting, key=lambda it: len(it[0]), default=("/", self.root))
-        return real, decoded(path[len(inner.rstrip("/")) :].lstrip("/"))
 
 
 @dataclass
@@ -118,7 +99,7 @@ class Preparing:
         place = place if file_path == rule.path else f"{place} ({file_path})"
         with telling(place):
             try:
-                file = self.opened_rule(real, rest, rule.kind)
+                file = self.opened_rule(rule, real, rest)
             except OSError as error:
                 if rule.path in self.mapped.optional and error.errno in NO_ENTRY:
                     self.prepared.told.append(f"{place}: it isn't there, so it has no rule")
@@ -128,27 +109,25 @@ class Preparing:
                 kind = REAL_KINDS.get(stat.S_IFMT(os.fstat(file).st_mode), "of no kind")
                 if kind != rule.kind:
                     raise Fault(f"{place}: it is {kind}, and {rule.kind} is expected")
-                rights = rule.rights & known & possible_on(file)
-                if rights != rule.rights & known:
-                    self.cuts(f"{place}: a rule on what is no directory can't have {rule.rights & known & ~rights}")
-                add(ruleset, file, rights)
+                beyond = rule.rights & ~possible_on(file)
+                if beyond:
+                    raise Fault(f"{place}: a rule on what is no directory can't have {beyond}")
+                add(ruleset, file, rule.rights & known)
 
-    def opened_rule(self, real: str, rest: str, kind: str) -> int:
+    def opened_rule(self, rule: ExportedRule, real: str, rest: str) -> int:
         """Opens the file of a rule, below a real directory, and returns its descriptor.
 
-        No link below the directory is followed, unless the profile is exported so. A link that is the file itself is
-        opened, and not what it leads to.
+        No link below the root is followed, nor one on the path of a mapped directory, unless the profile is exported
+        so. A link that is the file itself is opened, and not what it leads to.
         """
         if self.exported.follow:
-            last = os.O_NOFOLLOW if kind == "sym" else 0
+            last = os.O_NOFOLLOW if rule.kind == "sym" else 0
             return os.open(os.path.join(real, rest), os.O_PATH | last)
-        file = os.open(real, os.O_PATH)
-        names = rest.split("/") if rest else []
-        for place, name in enumerate(names, 1):
-            further = os.O_DIRECTORY if place < len(names) else 0
-            with closing(file):
-                file = os.open(name, os.O_PATH | os.O_NOFOLLOW | further, dir_fd=file)
-        return file
+        if self.mapped.is_mapped(rule.path):
+            real, rest = "/", os.path.join(real, rest).strip("/")
+        above, file = os.path.split(rest)
+        with closing(opened_below(real, above)) as folder:
+            return os.open(file, os.O_PATH | os.O_NOFOLLOW, dir_fd=folder) if file else os.dup(folder)
 
     def make_denying(self) -> None:
         """Makes the layer that denies what isn't a right of files in the policy's levels.
@@ -178,12 +157,6 @@ class Preparing:
             raise Fault(text)
         self.prepared.told.append(text)
 
-    def cuts(self, text: str) -> None:
-        """Takes rights that a rule can't have on its file: a fault, if the profile is to be enforced exactly."""
-        if self.exported.exact:
-            raise Fault(text)
-        self.prepared.told.append(text)
-
 
 def possible_on(file: int) -> Rights:
     """Returns the rights that mean something for an open file."""
@@ -193,25 +166,6 @@ def possible_on(file: int) -> Rights:
 def add(ruleset: int, file: int, rights: Rights) -> None:
     if rights:
         landlock.add_rule(ruleset, rights.value, file)
-
-
-@contextlib.contextmanager
-def telling(place: str) -> Iterator[None]:
-    """Turns an operating system's error into a fault at this place."""
-    try:
-        yield
-    except OSError as error:
-        raise Fault(f"{place}: {error.strerror}") from None
-    except ValueError as error:
-        raise Fault(f"{place}: {error}") from None
-
-
-@contextlib.contextmanager
-def closing(file: int) -> Iterator[int]:
-    try:
-        yield file
-    finally:
-        os.close(file)
 
 
 @contextlib.contextmanager
@@ -225,12 +179,12 @@ def prepare(exported: Exported, maps: Sequence[Tuple[str, str]] = (), optional: 
 
     `maps` has pairs of a policy's path and the real directory that stands for it; other paths are below the export's
     root. A rule's file that isn't there, is of another kind or has a link on its path is a `Fault`, but for a missing
-    one of `optional`. So is a kernel that lacks a level, unless the profile is exported with `--best-effort`.
+    one of `optional`. So is a kernel that lacks a level, unless the profile is exported with `--best-effort`, and so
+    are `maps` and `optional` that fit no rule.
     """
-    for inner, real in maps:
-        if not inner.startswith("/") or not os.path.isdir(real):
-            raise Fault(f"{inner}={real}: a path of the policy and a directory are expected")
-    return Preparing(exported, Mapped(exported.root, tuple(maps), tuple(optional))).all()
+    mapped = Mapped(exported.root, tuple(maps), tuple(optional))
+    need_fit(exported, mapped)
+    return Preparing(exported, mapped).all()
 
 
 def program_of(name: str, environment: Mapping[str, str]) -> str:

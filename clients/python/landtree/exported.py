@@ -12,7 +12,7 @@ from .values import KINDS, Rights
 
 FORM = 1
 DENIABLE = ("tcp", "ioctl_dev", "signal", "abstract_unix_socket")
-FLAGS = ("follow", "exact", "best_effort")
+FLAGS = ("follow", "best_effort")
 KEYS = {"version", "abi", "root", "also", "deny", "layers", *FLAGS}
 
 
@@ -41,7 +41,6 @@ class Exported:
     deny: FrozenSet[str]
     layers: Tuple[ExportedLayer, ...]
     follow: bool = False
-    exact: bool = False
     best_effort: bool = False
 
 
@@ -63,8 +62,8 @@ def read(data: Dict[str, Any]) -> Exported:
     need_keys(data["deny"], set(DENIABLE))
     deny = frozenset(it for it in DENIABLE if flag(data["deny"][it]))
     also = tuple(absolute(it) for it in data["also"])
-    follow, exact, best_effort = (flag(data[it]) for it in FLAGS)
-    return Exported(int(data["abi"]), absolute(data["root"]), also, deny, layers, follow, exact, best_effort)
+    follow, best_effort = (flag(data[it]) for it in FLAGS)
+    return Exported(int(data["abi"]), absolute(data["root"]), also, deny, layers, follow, best_effort)
 
 
 def layer_of(data: Dict[str, Any]) -> ExportedLayer:

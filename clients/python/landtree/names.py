@@ -47,3 +47,8 @@ def unfit(path: str) -> str:
     if any(len(name) > NAME_BYTES for name in names):
         return f"a name has over {NAME_BYTES} bytes"
     return ""
+
+
+def is_in(path: str, directory: str) -> bool:
+    """Says whether a path is that of a directory, or of something in it."""
+    return path == directory or path.startswith(directory.rstrip("/") + "/")

@@ -23,14 +23,13 @@ class ExportOptions:
     deny: Sequence[str] = ()
     checked: Sequence[File] = ()
     follow: bool = False
-    exact: bool = False
     best_effort: bool = False
 
     def words(self) -> List[str]:
         words = [f"--root={self.root}"] if self.root is not None else []
         words += [f"--also={it}" for it in self.also] + [f"--checked={os.fspath(it)}" for it in self.checked]
         words += [f"--deny={','.join(self.deny)}"] if self.deny else []
-        flags = {"--follow": self.follow, "--exact": self.exact, "--best-effort": self.best_effort}
+        flags = {"--follow": self.follow, "--best-effort": self.best_effort}
         return words + [word for word, is_set in flags.items() if is_set]
 
 

@@ -16,18 +16,18 @@ import sys
 import tempfile
 from dataclasses import dataclass
 from pathlib import Path
-from typing import List, Optional, Sequence, Set, Tuple
+from typing import List, Optional, Sequence, Tuple
 
 from .commands import Commands, Learned
 from .confine import own_environment
+from .denials import ENFORCED, denied_of, refused, traced_calls
 from .errors import Fault, ProgramFault
 from .exported import DENIABLE
-from .names import encoded
+from .names import encoded, is_in
 from .options import LearnOptions
+from .outputs import Input, differences, kept
 from .trace.conversion import Converted, convert
 from .trace.files import write_all
-from .trace.log import Call, calls, descriptor_of, string_of
-from .trace.reader import TRACED
 from .trace.recording import Recording, need_recordable, need_strace, record, strace_words
 from .trace.runs import run_traced
 from .values import Rights
@@ -36,13 +36,12 @@ PACKAGE = Path(__file__).resolve().parent.parent
 # Runs this very package in another directory, without a change to the environment.
 ENTRY = "import sys; sys.path.append(sys.argv.pop(1)); from landtree.__main__ import main; sys.exit(main())"
 MOST_FILES, MOST_BYTES = 100_000, 1 << 30
-REFUSED = ("EACCES", "EXDEV")
-ENFORCED = "landlock_restrict_self"
 
 
 @dataclass(frozen=True)
 class Tour:
-    """What came of it: both statuses, the calls that the layers have denied, and the policy's file and profile."""
+    """What came of it: both statuses, the policy's file and profile, the calls that the layers have denied, the streams
+    to which both runs have written differently, and those of which this isn't known."""
 
     recorded: Recording
     converted: Converted
@@ -50,6 +49,13 @@ class Tour:
     policy: Path
     status: int
     denied: List[str]
+    differ: List[str]
+    unknown: List[str]
+
+    @property
+    def is_well(self) -> bool:
+        """Says whether the program ran under the profile as it did before, as far as this is known."""
+        return self.status == self.recorded.status and not self.denied and not self.differ
 
 
 @dataclass(frozen=True)
@@ -71,18 +77,39 @@ def tour(words: Sequence[str], options: TourOptions, commands: Commands = Comman
     need_strace()
     need_fit(options, here)
     need_recordable(words, [here, *options.changes], own_environment())
-    with tempfile.TemporaryDirectory(prefix="landtree-", dir=outside(here)) as room:
-        copy = None if options.in_place else copied(here, Path(room) / "copy")
+    with tempfile.TemporaryDirectory(prefix="landtree-", dir=outside(here)) as name:
+        room, typed = Path(name).resolve(), Input()
+        copy = None if options.in_place else copied(here, room / "copy")
         folder = new_folder(options.folder)
-        recorded = recorded_in(folder, words, options)
+        with kept(room, "first") as first:
+            recorded = recorded_in(folder, words, options)
         converted = convert(recorded.log)
         learned = learn(folder, converted, options.learn, commands)
         policy = folder / "policy.toml"
-        write_all([(policy, f"{converted.nodes}\n{learned.profile}")])
+        profile = f"{ending_note([recorded.status])}{learned.profile}"
+        write_all([(policy, f"{converted.nodes}\n{profile}")])
+        typed.rewind()
         confined = folder / "confined.log"
-        status = run_confined(words, policy, options, commands, (confined, copy))
-        denied = denied_of(confined, refused(recorded.log))
-    return Tour(recorded, converted, learned, policy, status, denied)
+        with kept(room, "second") as second:
+            status = run_confined(words, policy, options, commands, (confined, copy))
+        there = os.fspath(copy) if copy else here
+        denied = denied_of(confined, refused(recorded.log), lambda text: moved(text, there, here))
+        back = (os.fsencode(there), os.fsencode(here))
+        differ, unknown = differences(first, second, back)
+    if differ and typed.is_used_up():
+        differ.append("the first run may have read its input, so that the second one had the rest of it alone")
+    return Tour(recorded, converted, learned, policy, status, denied, differ, unknown)
+
+
+def ending_note(statuses: Sequence[Optional[int]]) -> str:
+    """Returns a comment for a profile that is learned from runs of which some have failed, or nothing."""
+    failed = dict.fromkeys(shell_status(it) for it in statuses if it)
+    return "".join(f"# learned from a run that ended with {it}\n" for it in failed)
+
+
+def shell_status(status: int) -> int:
+    """Returns a status as a shell has it, also of a program that a signal has ended."""
+    return status if status >= 0 else 128 - status
 
 
 def need_program(commands: Commands) -> None:
@@ -127,7 +154,8 @@ def recorded_in(folder: Path, words: Sequence[str], options: TourOptions) -> Rec
     """Records the program into a new folder, which is removed if nothing is recorded."""
     try:
         never = Rights.of(options.learn.never) & Rights.REFER
-        recorded = record(words, folder / "run.log", options.changes, never=never, environment=own_environment())
+        log, environment, traced = folder / "run.log", own_environment(), traced_calls(options.deny)
+        recorded = record(words, log, options.changes, never=never, environment=environment, traced=traced)
     except BaseException:
         with contextlib.suppress(OSError):  # It isn't empty.
             folder.rmdir()
@@ -145,13 +173,9 @@ def outside(directory: str) -> str:
     raise Fault(f"{directory}: there is no place for a copy outside of it; --in-place needs none")
 
 
-def is_in(path: str, directory: str) -> bool:
-    return path == directory or path.startswith(directory.rstrip("/") + "/")
-
-
-def moved(text: str, directory: str, copy: Optional[Path]) -> str:
+def moved(text: str, directory: str, copy: str) -> str:
     """Returns a path in a directory as that in its copy. Any other text stays as it is."""
-    return f"{copy}{text[len(directory):]}" if copy and is_in(text, directory) else text
+    return f"{copy}{text[len(directory):]}" if is_in(text, directory) else text
 
 
 def copied(directory: str, copy: Path) -> Path:
@@ -193,45 +217,16 @@ def run_confined(
     """Runs the program under the learned profile, and logs it. `places` are the log and the copy in which it is run."""
     log, copy = places
     here = os.getcwd()
+    there = os.fspath(copy or here)
     program = shutil.which(commands.program) or os.fspath(commands.program)
     call = [sys.executable, "-I", "-S", "-c", ENTRY, str(PACKAGE), "exec", f"--program={os.path.abspath(program)}"]
-    call += [f"--policy={policy}", f"--profile={options.learn.name}"]
-    for layer in commands.export(policy, options.learn.name).layers:
-        call += [f"--optional={rule.path}" for rule in layer.rules]
+    call += ["--quiet", f"--policy={policy}", f"--profile={options.learn.name}"]
+    layers = commands.export(policy, options.learn.name).layers
+    paths = [rule.path for layer in layers for rule in layer.rules]
+    call += [f"--optional={it}" for it in paths]
     call += [f"--deny={','.join(options.deny)}"] if options.deny else []
-    call += [f"--map={encoded(here)}={copy}"] if copy else []
-    all_words = [*strace_words(log, [*TRACED, ENFORCED]), *call, "--", *(moved(it, here, copy) for it in words)]
-    environment = {name: moved(value, here, copy) for name, value in own_environment().items()}
-    return run_traced(all_words, directory=os.fspath(copy or here), environment=environment).status
-
-
-def refused(log: Path) -> Set[Tuple[str, ...]]:
-    """Returns the calls that were refused in the first run, under no layer."""
-    return {named(call) for call in calls(log) if call.error in REFUSED}
-
-
-def named(call: Call) -> Tuple[str, ...]:
-    """Returns a call's name and the texts that it was given, by which the same call of another run is known."""
-    texts = [string_of(it) for it in call.arguments]
-    return (call.name, *(it for it in texts if it is not None))
-
-
-def denied_of(log: Path, before: Set[Tuple[str, ...]]) -> List[str]:
-    """Returns a line for each call that was refused once the layers were on, and that wasn't refused before."""
-    told: List[str] = []
-    is_on = False
-    for call in calls(log):
-        is_on = is_on or (call.name == ENFORCED and call.is_done)
-        if is_on and call.error in REFUSED and named(call) not in before:
-            told.append(f"{log}:{call.line}: {shown(call)}: {call.error}")
-    if not is_on:
-        raise Fault(f"{log}: no layer was enforced, so the program wasn't run")
-    return told
-
-
-def shown(call: Call) -> str:
-    """Returns a call for a reader, with the directory from which a relative path of it begins."""
-    words = named(call)
-    found = descriptor_of(call.arguments[0]) if call.arguments else None
-    is_relative = len(words) > 1 and not words[1].startswith("/")
-    return " ".join(words) + (f" in {found.path}" if found and found.path and is_relative else "")
+    call += [f"--map={encoded(here)}={copy}"] if copy and any(is_in(it, encoded(here)) for it in paths) else []
+    traced = [*traced_calls(options.deny), ENFORCED]
+    all_words = [*strace_words(log, traced), *call, "--", *(moved(it, here, there) for it in words)]
+    environment = {name: moved(value, here, there) for name, value in own_environment().items()}
+    return run_traced(all_words, directory=there, environment=environment).status

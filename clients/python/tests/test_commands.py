@@ -187,7 +187,7 @@ class Results(Case):
 
 class Exports(Case):
     TEXT = (
-        '{"version": 1, "abi": 3, "root": "/", "also": [], "follow": false, "exact": false, "best_effort": false, '
+        '{"version": 1, "abi": 3, "root": "/", "also": [], "follow": false, "best_effort": false, '
         '"deny": {"tcp": true, "ioctl_dev": false, "signal": false, "abstract_unix_socket": false}, '
         '"layers": [{"handled": ["execute", "refer"], "rules": [{"path": "/a", "kind": "dir", "rights": ["refer"]}]}]}'
     )
@@ -208,7 +208,8 @@ class Exports(Case):
             ('["refer"]', '["refer", "execute"]'),
             ('["refer"]', '"refer"'),
             ('"dir"', '"file"'),
-            ('"exact": false', '"exact": 0'),
+            ('"follow": false', '"follow": 0'),
+            ('"follow": false', '"follow": false, "exact": false'),
             ('"tcp": true', '"udp": true'),
             ('["execute", "refer"]', "[]"),
             ('"root": "/"', '"root": ""'),

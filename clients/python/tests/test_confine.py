@@ -4,35 +4,16 @@ import os
 import socket
 from unittest import mock
 
+from tests.preparing import Prepared, exported, layer
 from tests.support import PROGRAM, Case, needs_landlock
 
-from landtree import Policy, Rights, landlock
-from landtree.confine import Mapped, become, prepare, program_of
-from landtree.exported import Exported, ExportedLayer, ExportedRule
+from landtree import Policy, landlock
+from landtree.confine import become, prepare, program_of
 
 SHELL = "/bin/sh"
 
 
-def layer(handled, *rules):
-    return ExportedLayer(Rights.of(handled), tuple(ExportedRule(path, kind, Rights.of(it)) for path, kind, it in rules))
-
-
-def exported(*layers, root="/", also=(), deny=(), **flags):
-    return Exported(3, root, tuple(also), frozenset(deny), layers, **flags)
-
-
-class Places(Case):
-    def test_maps(self):
-        mapped = Mapped("/root", [("/a", "/x"), ("/a/b", "/y"), ("/", "/z")])
-        wanted = {"/a": ("/x", ""), "/a/c": ("/x", "c"), "/a/b/c/d": ("/y", "c/d")}
-        wanted.update({"/ab": ("/z", "ab"), "/": ("/z", "")})
-        self.assertEqual({it: mapped.place(it) for it in wanted}, wanted)
-        self.assertEqual(Mapped("/root").place("/a"), ("/root", "a"))
-        self.assertEqual(Mapped().place("/"), ("/", ""))
-
-    def test_names(self):
-        self.assertEqual(Mapped().place("/a%20b/%2E%2E"), ("/", "a b/%2E%2E"))
-
+class Programs(Case):
     def test_programs(self):
         for name in ("a/p", "b/p", "c/p"):
             self.put(name).chmod(0o755)
@@ -51,16 +32,8 @@ class Places(Case):
 
 
 @needs_landlock
-class Preparing(Case):
+class Preparing(Prepared):
     """What is refused before anything is enforced."""
-
-    def wants(self, fault, *words, **options):
-        before = os.listdir("/proc/self/fd")
-        self.wants_fault(fault, prepare, *words, **options)
-        self.assertEqual(os.listdir("/proc/self/fd"), before)
-
-    def one(self, path, kind, rights="read_file", **options):
-        return exported(layer("read_file,read_dir", (path, kind, rights)), **options)
 
     def test_no_landlock(self):
         with mock.patch.object(landlock, "level", return_value=0):
@@ -77,7 +50,7 @@ class Preparing(Case):
         self.wants(f"layer 1: {here}/none: No such file or directory", self.one(f"{here}/none", "reg"))
         self.wants(f"layer 1: {here}/d: it is dir, and reg is expected", self.one(f"{here}/d", "reg"))
         self.wants(f"layer 1: {here}/link: it is sym, and dir is expected", self.one(f"{here}/link", "dir"))
-        self.wants(f"layer 1: {here}/link/f: Not a directory", self.one(f"{here}/link/f", "reg"))
+        self.wants(f"layer 1: {here}/link/f: {here}/link is a link", self.one(f"{here}/link/f", "reg"))
         self.wants(f"layer 1: /none ({here}/none): No such file or directory", self.one("/none", "reg", root=here))
         prepare(self.one(f"{here}/link/f", "reg", follow=True)).close()
         prepare(self.one(f"{here}/d/f", "reg")).close()
@@ -85,19 +58,6 @@ class Preparing(Case):
 
     def test_names_with_a_zero_byte(self):
         self.wants("layer 1: /%00 (/\x00): embedded null byte", self.one("/%00", "reg"))
-
-    def test_what_may_be_missing(self):
-        missing = str(self.room / "none")
-        prepared = prepare(self.one(missing, "reg"), optional=[missing])
-        self.assertEqual(prepared.told, [f"layer 1: {missing}: it isn't there, so it has no rule"])
-        prepared.close()
-
-    def test_maps(self):
-        self.put("d/f")
-        prepare(self.one("/src/f", "reg"), [("/src", str(self.room / "d"))]).close()
-        text = f"/src={self.room}/none: a path of the policy and a directory are expected"
-        self.wants(text, self.one("/src/f", "reg"), [("/src", f"{self.room}/none")])
-        self.wants(text.replace("/src=", "src="), self.one("/src/f", "reg"), [("src", f"{self.room}/none")])
 
     def test_levels(self):
         wide = exported(layer("read_file,refer,truncate"))
@@ -111,14 +71,11 @@ class Preparing(Case):
             self.wants("the kernel knows no right that the profile handles", only)
             self.wants("the kernel is of level 2, and tcp can be denied from 4 on", self.one("/", "dir", deny=["tcp"]))
 
-    def test_rights_that_are_cut(self):
+    def test_rights_that_mean_nothing_on_a_file(self):
         file = str(self.put("f"))
         text = f"layer 1: {file}: a rule on what is no directory can't have read_dir"
-        self.wants(text, self.one(file, "reg", "read_file,read_dir", exact=True))
-        prepared = prepare(self.one(file, "reg", "read_file,read_dir"))
-        self.assertEqual(prepared.told, [text])
-        prepared.close()
-
+        for flags in ({}, {"best_effort": True}):
+            self.wants(text, self.one(file, "reg", "read_file,read_dir", **flags))
 
 class Executing(Case):
     """Runs programs by `exec`, under a policy with which they can be loaded."""
@@ -199,7 +156,7 @@ class Confined(Executing):
         self.assertEqual((ended.returncode, ended.stderr), (126, f"landtree: {self.room}/p: Permission denied\n"))
 
     def test_nothing_runs_if_words_are_wrong(self):
-        wrong = [["--nope"], ["--deny", "udp"], ["--map", "x"], ["--root", "relative"], ["--exact", "--best-effort"]]
+        wrong = [["--nope"], ["--deny", "udp"], ["--map", "x"], ["--root", "relative"], ["--exact"]]
         for options in wrong:
             ended = self.run_exec("echo", "ran", options=options)
             self.assertEqual((ended.returncode, ended.stdout), (125, ""), options)
@@ -229,6 +186,18 @@ class Confined(Executing):
         environment = {"PATH": os.environ["PATH"], "PYTHONPATH": "/none", "A": "b"}
         lines = self.run_exec("env", env=environment).stdout.split()
         self.assertEqual(sorted(lines), sorted(f"{name}={value}" for name, value in environment.items()))
+
+    def test_options_that_fit_no_rule(self):
+        (self.room / "link").symlink_to("in")
+        for options, said in {
+            ("--map", f"/nosuch={self.room}"): "no rule of the profile is there",
+            ("--map", f"/usr={self.room}/link"): f"{self.room}/link is a link",
+            ("--map", f"/usr={self.room}/../x"): f"'{self.room}/../x' is no path from / on and without . and ..",
+            ("--optional", "/nowhere"): "no rule of the profile has this path",
+        }.items():
+            ended = self.run_exec("echo", "ran", options=options)
+            text = f"landtree: {self.room}/policy.toml: profile p: {' '.join(options)}: {said}\n"
+            self.assertEqual((ended.returncode, ended.stdout, ended.stderr), (125, "", text))
 
     def test_checks_first(self):
         bad = self.put("bad.check", "open w /usr = ok\n")

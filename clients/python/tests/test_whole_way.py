@@ -17,7 +17,8 @@ from tests.programs import TRIALS
 from tests.support import LONGEST, PACKAGE, PROGRAM, Case, needs, needs_landlock, needs_strace
 
 from landtree import Commands, read_policy
-from landtree.tour import ENFORCED, ENTRY, denied_of, refused
+from landtree.denials import ENFORCED, denied_of, refused
+from landtree.tour import ENTRY
 from landtree.trace import convert
 from landtree.trace.reader import TRACED
 from landtree.trace.recording import strace_words

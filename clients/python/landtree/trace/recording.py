@@ -120,6 +120,7 @@ def record(
     *,
     never: Rights = Rights.NONE,
     environment: Optional[Mapping[str, str]] = None,
+    traced: Sequence[str] = TRACED,
 ) -> Recording:
     """Runs a program with the streams of this process, and returns what was recorded.
 
@@ -150,7 +151,7 @@ def record(
         raise Fault(f"{place}: {error.strerror}") from None
     recording.inventory.began = now()
     try:
-        run = run_traced([*strace_words(place), *words], environment=environment, layer=layer)
+        run = run_traced([*strace_words(place, traced), *words], environment=environment, layer=layer)
         if not place.stat().st_size:
             raise Fault(f"{place}: strace has logged nothing, so the program wasn't run")
     except BaseException:
