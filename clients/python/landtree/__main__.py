@@ -4,6 +4,7 @@ from __future__ import annotations
 
 import argparse
 import os
+import shutil
 import sys
 from pathlib import Path
 from typing import Callable, Dict, List, Optional, Sequence, Tuple
@@ -12,9 +13,13 @@ from .command_line import COMMAND, TAKES_PROGRAM, parsed
 from .commands import Commands
 from .confine import NOT_CONFINED, NOT_RUN, NOT_THERE, NO_ENTRY, become, own_environment, prepare
 from .errors import Fault, LandtreeError, ProgramFault
-from .lint import lint
+from .exported import Exported
+from .lint import beyond_findings, lint, names_of, only_read
 from .options import ExportOptions, LearnOptions
-from .tour import Tour, TourOptions, ending_note, need_program, shell_status, tour
+from .places import Mapped
+from .policy_text import read_policy
+from .reach import Reach
+from .tour import PACKAGE, Tour, TourOptions, ending_note, need_program, shell_status, tour
 from .trace import convert, record
 from .trace.conversion import names_beside
 from .trace.recording import Recording
@@ -61,7 +66,7 @@ def run_exec(options: argparse.Namespace) -> int:
         prepared = prepare(exported, options.map, options.optional)
     except Fault as fault:
         raise Fault(f"{options.policy}: profile {options.profile}: {fault}") from None
-    for line in [] if options.quiet else prepared.told:
+    for line in [] if options.quiet else [*prepared.told, *own_lines(exported, options)]:
         say(line)
     prepared.enforce()
     try:
@@ -69,6 +74,16 @@ def run_exec(options: argparse.Namespace) -> int:
     except OSError as error:
         say(f"{words[0]}: {error.strerror}")
         return NOT_THERE if error.errno in NO_ENTRY else NOT_RUN
+
+
+def own_lines(exported: Exported, options: argparse.Namespace) -> List[str]:
+    """Returns a line for each file that the next start takes as it is, and that the program may change."""
+    reach = Reach.of(exported.layers, Mapped(exported.root, options.map).real)
+    program = shutil.which(options.program) or options.program
+    taken = [(it, "reg") for file in (options.policy, program) for it in sorted(names_of(file))]
+    taken += [(str(PACKAGE / "landtree"), "dir")]
+    changed = [path for path, kind in taken if reach.may_change(path, kind)]
+    return [f"the profile lets the program change {it}, which the next start takes as it is then" for it in changed]
 
 
 def export_options(options: argparse.Namespace) -> ExportOptions:
@@ -102,7 +117,7 @@ def run_try(options: argparse.Namespace) -> int:
     learning = learn_options(options)
     chosen = TourOptions(Path(options.to), options.changes, learning, options.deny, options.in_place)
     came = tour(options.words, chosen, commands_of(options))
-    for line in tour_lines(came):
+    for line in [*tour_lines(came), *beyond_lines(came, options.name)]:
         say(line)
     if not came.is_well and not options.in_place:
         say("the second run was in a copy of the working directory; --in-place has it in the directory itself")
@@ -122,8 +137,18 @@ def tour_lines(came: Tour) -> List[str]:
     return lines
 
 
+def beyond_lines(came: Tour, name: str) -> List[str]:
+    """Returns a line for each directory that the profile lets the program write, where the run only read files."""
+    log = came.recorded.log
+    layers = read_policy(came.policy).profiles[name]
+    return [f"{came.policy}: {it}" for it in beyond_findings(name, layers, only_read(log), log.name)]
+
+
 def run_lint(options: argparse.Namespace) -> int:
-    linted = lint(options.policy, commands_of(options))
+    beside = Path(options.policy).with_name("run.log")
+    log = options.log or (beside if beside.exists() else None)
+    mapped = Mapped(options.root or "/", options.map)
+    linted = lint(options.policy, commands_of(options), log=log, mapped=mapped)
     for finding in linted.findings:
         print(f"{options.policy}: {finding}")
     for line in linted.open:

@@ -4,11 +4,16 @@ from __future__ import annotations
 
 import os
 from dataclasses import dataclass
-from typing import Iterator, List, Union
+from typing import Dict, Iterator, List, Optional, Sequence, Set, Tuple
 
 from .commands import Commands, Granted
+from .names import is_in
+from .options import File
+from .places import Mapped
 from .policy import Layer, Policy, ancestors
-from .policy_text import read_policy
+from .policy_text import load_policy, read_policy
+from .reach import Reach, Replacement
+from .trace.conversion import convert
 from .values import MAKE_RIGHTS, Rights, rights_of_level
 
 # What no layer of the levels 1 to 3 restricts (docs/LINUX.md has the whole list).
@@ -21,11 +26,14 @@ OPEN = (
 )
 
 
+# How many paths a finding names.
+SHOWN = 3
 # Directories that others use too, and what a right on all of one reaches.
 SHARED = {
     "/proc": (Rights.READ_FILE, "it reads all of /proc, so the command lines of other processes too"),
     "/tmp": (Rights.WRITE_FILE, "it writes what others have in /tmp: a TMPDIR of its own keeps that apart"),
     "/var/tmp": (Rights.WRITE_FILE, "it writes what others have in /var/tmp: a TMPDIR of its own keeps that apart"),
+    "/dev/shm": (Rights.WRITE_FILE, "it writes what others share as memory in /dev/shm"),
 }
 
 
@@ -48,9 +56,16 @@ class Linted:
     open: List[str]
 
 
-def lint(file: Union[str, "os.PathLike[str]"], commands: Commands = Commands()) -> Linted:
-    """Looks through each profile of the policy in a file. A policy with a fault raises `Fault` or `ProgramFault`."""
+def lint(
+    file: File, commands: Commands = Commands(), *, log: Optional[File] = None, mapped: Mapped = Mapped()
+) -> Linted:
+    """Looks through each profile of the policy in a file. A policy with a fault raises `Fault` or `ProgramFault`.
+
+    `log` is one that `record` has made, of a run from which the policy was learned. `mapped` says where the policy's
+    paths are on this machine.
+    """
     policy = read_policy(file)
+    seen = only_read(log) if log else []
     findings: List[Finding] = []
     if not policy.profiles:
         findings.append(Finding("the policy", "it has no profile"))
@@ -58,6 +73,9 @@ def lint(file: Union[str, "os.PathLike[str]"], commands: Commands = Commands()) 
         findings += profile_findings(policy, name, layers)
         if layers:
             findings += grant_findings(name, commands.rights(file, name))
+            findings += replacement_findings(policy, name, layers)
+            findings += own_findings(file, name, Reach.of(layers, mapped.real))
+            findings += beyond_findings(name, layers, seen, os.fspath(log or ""))
     return Linted(findings, list(OPEN))
 
 
@@ -121,3 +139,67 @@ def grant_findings(name: str, granted: List[Granted]) -> Iterator[Finding]:
         if it.kind in ("reg", "dir") and Rights.EXECUTE in it.rights and writes:
             what = "a file in it can be written" if it.kind == "dir" else "it can be written"
             yield Finding(f"profile {name}", f"{it.path}: {what} and then executed")
+
+
+def replacement_findings(policy: Policy, name: str, layers: Sequence[Layer]) -> Iterator[Finding]:
+    """Yields the paths of rules where a program may put something else, on which the next start grants more."""
+    reach = Reach.of(layers)
+    kinds = {"/": "dir", **{it.path: it.kind for it in policy.nodes}}
+    paths = dict.fromkeys(rule.path for layer in layers for rule in layer.rules)
+    found: Dict[Tuple[Replacement, Rights], List[str]] = {}
+    for path in paths:
+        for it in reach.replacements(path, kinds.get(path, "reg")):
+            more = reach.rights(path) & ~reach.rights(it.directory)
+            if more:
+                found.setdefault((it, more), []).append(path)
+                break
+    for (it, more), those in found.items():
+        why = f"{it.directory} grants {it.rights}, so a run may put something else there"
+        yield Finding(f"profile {name}", f"{some_of(those)}: {why}, and the next start grants {more} on that")
+
+
+def own_findings(file: File, name: str, reach: Reach) -> Iterator[Finding]:
+    """Yields whether a program may change the policy's own file, by one of its names."""
+    if any(reach.may_change(it, "reg") for it in names_of(file)):
+        text = "it lets a run change this policy, and the next start takes what the policy says then"
+        yield Finding(f"profile {name}", text)
+
+
+def names_of(file: File) -> Set[str]:
+    """Returns the path of a file, and that to which its links lead."""
+    path = os.path.abspath(file)
+    return {os.path.join(os.path.realpath(os.path.dirname(path)), os.path.basename(path)), os.path.realpath(path)}
+
+
+def beyond_findings(name: str, layers: Sequence[Layer], seen: Sequence[str], log: str) -> Iterator[Finding]:
+    """Yields each directory that may be written, with the files in it that a run has only read (`seen`)."""
+    reach = Reach.of(layers)
+    writable = [rule.path for layer in layers for rule in layer.rules if rule.rights & Rights.WRITE_FILE]
+    found: Dict[str, List[str]] = {}
+    for path in seen:
+        above = path[: path.rindex("/")] or "/"
+        if Rights.WRITE_FILE in reach.rights(path):
+            above = max((it for it in writable if is_in(path, it)), key=len, default="/")
+        elif (Rights.REMOVE_FILE | Rights.MAKE_REG) & ~reach.rights(above):
+            continue
+        found.setdefault(above, []).append(path[len(above.rstrip("/")) + 1 :])
+    for directory, those in found.items():
+        yield Finding(f"profile {name}", f"{directory} may be written, where the run only read {some_of(those)} ({log})")
+
+
+def some_of(texts: Sequence[str]) -> str:
+    first = ", ".join(texts[:SHOWN])
+    return first if len(texts) <= SHOWN else f"{first} and {len(texts) - SHOWN:,} more"
+
+
+def only_read(log: File) -> List[str]:
+    """Returns the paths of the files that were there before a run, and that it read or executed and didn't change."""
+    converted = convert(log, whole=True)
+    files = [it.path for it in load_policy(converted.nodes).nodes if it.kind == "reg"]
+    read: Set[str] = set()
+    changed: Set[str] = set()
+    for line in converted.checks.splitlines():
+        command, *words = line.partition(" = ")[0].split(" ")
+        is_reading = command in ("exec", "list", "stat") or (command == "open" and words[:1] == ["r"])
+        (read if is_reading else changed).update(it for it in words if it.startswith("/"))
+    return [it for it in files if it in read and it not in changed]

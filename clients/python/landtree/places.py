@@ -44,6 +44,11 @@ class Mapped:
         inner, real = self.map_of(path)
         return real, decoded(path[len(inner.rstrip("/")) :].lstrip("/"))
 
+    def real(self, path: str) -> str:
+        """Returns the real path that stands for a policy's path, without a link on it if there can be such a path."""
+        real = os.path.join(*self.place(path))
+        return real if "\0" in real else os.path.realpath(real)
+
 
 def opened_below(real: str, rest: str) -> int:
     """Opens a directory below another one, and returns its descriptor. A link on the way raises `LinkOnPath`."""

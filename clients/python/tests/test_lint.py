@@ -1,24 +1,28 @@
 """What is found in policies, and what isn't."""
 
-from tests.support import PROGRAM, Case
+from tests.support import PROGRAM, Case, needs_landlock, needs_strace
 
 from landtree import Commands, Policy, Rights
 from landtree.lint import OPEN, lint
+from landtree.places import Mapped
 
 LEVEL = Rights.ALL
 
 
-class Linting(Case):
+class Linted(Case):
     def setUp(self):
         super().setUp()
         self.policy = Policy(variables={})
 
-    def found(self, text=None):
+    def found(self, text=None, mapped=Mapped("/none")):
+        """Returns what is found in a policy; its paths aren't those of its own file, unless a test says so."""
         file = self.put("p.toml", self.policy.dumps() if text is None else text)
-        linted = lint(file, Commands(PROGRAM))
+        linted = lint(file, Commands(PROGRAM), mapped=mapped)
         self.assertEqual(linted.open, list(OPEN))
         return [str(it) for it in linted.findings]
 
+
+class Linting(Linted):
     def test_nothing(self):
         layer = self.policy.layer("p", "all")
         self.policy.allow(layer, "/src", "read")
@@ -36,7 +40,7 @@ class Linting(Case):
         self.assertEqual(self.found(), [f"profile p, layer 1: {text}"])
         layer.handled &= ~Rights.WRITE_FILE
         text = "it doesn't handle write_file, so it denies none of these anywhere"
-        self.assertEqual(self.found(), [f"profile p, layer 1: {text}"])
+        self.assertEqual(self.found(), [f"profile p, layer 1: {text}", OwnPolicy.TEXT])
 
     def test_truncate_is_unknown_below_level_3(self):
         self.policy.abi = 2
@@ -53,10 +57,12 @@ class Linting(Case):
         self.policy.allow(layer, "/proc", "read_file")
         self.policy.allow(layer, "/tmp", "write_file, truncate, make_reg")
         self.policy.allow(layer, "/var/tmp", "read_dir")
+        self.policy.allow(layer, "/dev/shm", "write_file")
         place = "profile p, layer 1, rule"
         self.assertEqual(self.found(), [
             f"{place} 1: it reads all of /proc, so the command lines of other processes too",
             f"{place} 2: it writes what others have in /tmp: a TMPDIR of its own keeps that apart",
+            f"{place} 4: it writes what others share as memory in /dev/shm",
         ])
 
     def test_rules_that_add_nothing(self):
@@ -96,3 +102,155 @@ class Linting(Case):
 
     def test_a_policy_with_a_fault(self):
         self.wants_fault(f"{self.room}/p.toml: version = 9: 1 or 2 is expected", self.found, "version = 9\n")
+
+
+class Replacing(Linted):
+    """What a run may put in the place of what a rule names, so that the next start grants something else."""
+
+    def replaced(self, *rules, more="", kind="dir"):
+        self.policy = Policy(variables={})
+        layer = self.policy.layer("p", "all")
+        for path, rights, *kinds in rules:
+            self.policy.allow(layer, path, rights, kind=(kinds or [kind])[0])
+        return [it for it in self.found() if "the next start grants" in it]
+
+    def test_a_directory(self):
+        found = self.replaced(("/work", "remove_dir,make_dir"), ("/work/public", "read"))
+        text = "/work grants remove_dir,make_dir, so a run may put something else there"
+        more = "and the next start grants read_file,read_dir on that"
+        self.assertEqual(found, [f"profile p: /work/public: {text}, {more}"])
+
+    def test_a_file(self):
+        found = self.replaced(("/w", "remove_file,make_reg,write_file"), ("/w/f", "execute,read_file", "reg"))
+        text = "/w grants remove_file,make_reg, so a run may put something else there"
+        self.assertEqual(found, [f"profile p: /w/f: {text}, and the next start grants execute,read_file on that"])
+
+    def test_other_kinds(self):
+        for kind in ("sym", "fifo", "sock", "char", "block"):
+            rules = [("/w", f"remove_file,make_{kind}"), ("/w/f", "read_file", kind)]
+            self.assertEqual(len(self.replaced(*rules)), 1, kind)
+            self.assertEqual(self.replaced(("/w", "remove_file,make_reg"), ("/w/f", "read_file", kind)), [])
+
+    def test_a_directory_above(self):
+        found = self.replaced(("/", "remove_dir,make_dir"), ("/a/b/c", "read_file"))
+        self.assertEqual(len(found), 1)
+        self.assertIn("/a/b/c: / grants remove_dir,make_dir, so", found[0])
+
+    def test_many_paths(self):
+        rules = [(f"/w/{it}", "read_file", "reg") for it in "abcdef"]
+        (found,) = self.replaced(("/w", "remove_file,make_reg"), *rules)
+        self.assertIn(" /w/a, /w/b, /w/c and 3 more: /w grants", found)
+
+    def test_what_cannot_be_replaced(self):
+        for rules in (
+            [("/work", "remove_dir"), ("/work/public", "read")],
+            [("/work", "make_dir"), ("/work/public", "read")],
+            [("/work", "remove_file,make_reg"), ("/work/public", "read")],
+            [("/work/public", "remove_dir,make_dir,read")],
+            [("/work/other", "remove_dir,make_dir"), ("/work/public", "read")],
+            [("/", "remove_dir,make_dir,read")],
+        ):
+            self.assertEqual(self.replaced(*rules), [], rules)
+
+    def test_nothing_more_is_granted_there(self):
+        self.assertEqual(self.replaced(("/w", "remove_dir,make_dir,read"), ("/w/d", "read_file")), [])
+
+    def test_another_layer_forbids_it(self):
+        self.replaced(("/work", "remove_dir,make_dir"), ("/work/public", "read"))
+        layer = self.policy.layer("p", "remove_dir")
+        self.assertEqual([it for it in self.found() if "the next start" in it], [])
+        layer.handled = Rights.WRITE_FILE
+        self.assertEqual(len([it for it in self.found() if "the next start" in it]), 1)
+
+
+class OwnPolicy(Linted):
+    TEXT = "profile p: it lets a run change this policy, and the next start takes what the policy says then"
+
+    def changes(self, path, rights, mapped=Mapped()):
+        self.policy = Policy(variables={})
+        layer = self.policy.layer("p", "all")
+        self.policy.allow(layer, path, rights)
+        return self.TEXT in self.found(mapped=mapped)
+
+    def test_it_may_be_written_or_replaced(self):
+        for rights, wanted in {
+            "write_file": True,
+            "remove_file,make_reg": True,
+            "remove_file,make_sym": True,
+            "remove_file,make_dir": False,
+            "read,truncate,make_reg": False,
+        }.items():
+            self.assertEqual(self.changes(self.room, rights), wanted, rights)
+        self.assertFalse(self.changes(self.room, "remove_dir,make_dir"))
+        self.assertTrue(self.changes(self.room.parent, "remove_dir,make_dir"))
+        self.put("d/x")
+        self.assertFalse(self.changes(self.room / "d", "write_file"))
+
+    def test_where_the_paths_are(self):
+        self.assertFalse(self.changes("/w", "write_file"))
+        self.assertTrue(self.changes("/w", "write_file", mapped=Mapped("/", [("/w", str(self.room))])))
+        self.assertFalse(self.changes(self.room, "write_file", mapped=Mapped("/none")))
+        (self.room / "root").symlink_to(self.room.parent)
+        self.assertTrue(self.changes(f"/{self.room.name}", "write_file", mapped=Mapped(f"{self.room}/root")))
+        (self.room / "p.toml").write_text(f"{self.policy.dumps()}".replace("write_file", "read_file"))
+        self.assertFalse(self.changes("/new\0name", "write_file"))
+
+    def test_by_a_link(self):
+        self.put("d/x")
+        self.policy.allow(self.policy.layer("p", "all"), self.room / "d", "remove_file,make_reg")
+        file = self.put("p.toml", self.policy.dumps())
+        self.put("d/x")
+        (self.room / "d/link").symlink_to(file)
+        self.assertNotIn(self.TEXT, [str(it) for it in lint(file, Commands(PROGRAM)).findings])
+        self.assertIn(self.TEXT, [str(it) for it in lint(self.room / "d/link", Commands(PROGRAM)).findings])
+
+    def test_as_a_user_types_it(self):
+        layer = self.policy.layer("p", "all")
+        self.policy.allow(layer, "/w", "write_file")
+        self.put("p.toml", self.policy.dumps())
+        words = ["lint", "p.toml", "--program", PROGRAM]
+        self.assertNotIn("change this policy", self.run_command(*words).stdout)
+        for options in (["--map", f"/w={self.room}"], ["--root", self.put("root/w").parent, "--map", f"/w={self.room}"]):
+            ended = self.run_command(*words, *options)
+            self.assertIn(f"p.toml: {self.TEXT}\n", ended.stdout)
+
+
+@needs_strace
+@needs_landlock
+class OnlyRead(Case):
+    def test_what_became_writable(self):
+        for name in ("src/main", "notes", "one", "two", "three"):
+            self.put(f"w/{name}", "text\n")
+        script = "cat src/main notes one two three >/dev/null; echo x >lock; cat lock; echo x >>notes"
+        words = ["try", "--program", PROGRAM, "--to", self.room / "to", "--", "sh", "-c", script]
+        ended = self.run_command(*words, cwd=self.room / "w")
+        self.assertEqual(ended.returncode, 0, ended.stderr)
+        text = f"profile learned: {self.room}/w may be written, where the run only read one, src/main, three and 1 more"
+        self.assertIn(f"{text} (run.log)", ended.stderr)
+        ended = self.run_command("lint", "to/policy.toml", "--program", PROGRAM)
+        self.assertIn(f"{text} (to/run.log)\n", ended.stdout)
+        (self.room / "to/run.log").rename(self.room / "other.log")
+        (self.room / "to/run.log.before").rename(self.room / "other.log.before")
+        self.assertNotIn("only read", self.run_command("lint", "to/policy.toml", "--program", PROGRAM).stdout)
+        ended = self.run_command("lint", "to/policy.toml", "--program", PROGRAM, "--log", "other.log")
+        self.assertIn(f"{text} (other.log)\n", ended.stdout)
+        ended = self.run_command("lint", "to/policy.toml", "--program", PROGRAM, "--log", "none.log")
+        said = "landtree: none.log.before: No such file or directory; `record` makes it beside its log\n"
+        self.assertEqual((ended.returncode, ended.stdout, ended.stderr), (2, "", said))
+
+    def test_what_may_be_replaced(self):
+        self.put("w/f", "one\n")
+        self.put("w/g", "one\n")
+        script = "cat g; sed -i s/one/two/ f"
+        words = ["try", "--program", PROGRAM, "--to", self.room / "to", "--", "sh", "-c", script]
+        ended = self.run_command(*words, cwd=self.room / "w")
+        self.assertIn(f"{self.room}/w may be written, where the run only read g (run.log)", ended.stderr)
+
+    def test_nothing_became_writable(self):
+        self.put("w/src/main", "text\n")
+        self.put("w/out/x")
+        script = "cat src/main >out/new; cat out/new"
+        words = ["try", "--program", PROGRAM, "--to", self.room / "to", "--", "sh", "-c", script]
+        ended = self.run_command(*words, cwd=self.room / "w")
+        self.assertEqual(ended.returncode, 0, ended.stderr)
+        self.assertNotIn("only read", ended.stderr)
