@@ -10,7 +10,7 @@ words of the command in their order (docs/PROGRAM.md). A call that a layer forbi
 for another reason raises `Refused`. What no line can say raises `ValueError` or `TypeError`, and sends nothing.
 `snapshot` makes the text of a policy from a real directory.
 
-`Policy` makes policies, and `Commands` runs the program's other commands. `python3 -m landtree` records a real program,
+`Policy` makes policies, and `Commands` runs the program's other commands. `landtree-sandbox` records a real program,
 and runs one under a policy by the kernel's Landlock (`trace`, `confine`, `tour`, `lint`).
 
 This folder is all that is needed, with Python 3.8 or later on a Unix; policies are read with 3.11 or later, and real

@@ -23,7 +23,8 @@ class Guide(Case):
     def setUp(self):
         super().setUp()
         self.put("bin/landtree", f'#!/bin/sh\nexec {PROGRAM} "$@"\n').chmod(0o755)
-        path = f"{self.room}/bin:{os.environ['PATH']}"
+        (self.room / "bin/landtree-sandbox").symlink_to(PACKAGE / "landtree-sandbox")
+        path = f"{self.room}/bin:{os.path.dirname(sys.executable)}:{os.environ['PATH']}"
         self.environment = {**os.environ, "PATH": path, "PYTHONPATH": str(PACKAGE), "PYTHONDONTWRITEBYTECODE": "1"}
         self.how = {"cwd": self.room, "env": self.environment, "timeout": LONGEST, "text": True, "check": False}
 
