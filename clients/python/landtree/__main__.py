@@ -43,8 +43,9 @@ def told(fault: LandtreeError) -> str:
 
 def run_record(options: argparse.Namespace) -> int:
     ended = record(options.words, options.to, options.changes, never=options.never, environment=own_environment())
-    say(f"{ended.log}: the program has ended with status {ended.status}")
-    return shell_status(ended.status or 0)
+    status = shell_status(ended.status or 0)
+    say(f"{ended.log}: the program has ended with status {status}")
+    return status
 
 
 def run_convert(options: argparse.Namespace) -> int:
@@ -131,8 +132,8 @@ def tour_lines(came: Tour) -> List[str]:
     least = ", and each layer that lets it run so grants all that this one grants" if is_least else ""
     lines = [*came.converted.told(), *(it.strip() for it in came.learned.hints.splitlines())]
     lines += [f"it would be denied now: {it}" for it in came.denied] + came.differ + came.unknown
-    first = came.recorded.status
-    lines.append(f"without a layer the program has ended with status {first}, under the profile with {came.status}")
+    first, second = shell_status(came.recorded.status or 0), shell_status(came.status)
+    lines.append(f"without a layer the program has ended with status {first}, under the profile with {second}")
     lines.append(f"{came.policy}: the profile has {rules} rules{least}")
     return lines
 

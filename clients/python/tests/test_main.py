@@ -223,8 +223,8 @@ class Recording(Case):
 
     def test_it_is_asked_to_end(self):
         # The shell's child gets the signal too. Without it, this would last ten minutes.
-        for number, status in {signal.SIGTERM: -15, signal.SIGHUP: -1}.items():
-            log = f"{int(number)}.log"
+        for number in (signal.SIGTERM, signal.SIGHUP):
+            log, status = f"{int(number)}.log", 128 + number
             words = ["record", "--to", log, "--", "sh", "-c", "echo up; sleep 600; true"]
             said = f"landtree: {log}: the program has ended with status {status}"
             self.assertEqual(self.signalled_command(number, *words), (128 + number, said))

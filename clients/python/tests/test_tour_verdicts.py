@@ -5,12 +5,13 @@ import pty
 import signal
 import socket
 import subprocess
+from unittest import mock
 
 from tests.support import COMMAND, LONGEST, PROGRAM, Case, needs_landlock, needs_strace
 
 from landtree import landlock
 from landtree.denials import traced_calls
-from landtree.outputs import Written, difference, line_text
+from landtree.outputs import PipeKeeper, Written, difference, line_text
 
 RUNS = "without a layer the program has ended with status {}, under the profile with {}"
 
@@ -37,15 +38,15 @@ class Verdicts(Case):
 @needs_strace
 @needs_landlock
 class Denials(Verdicts):
-    """Landlock refuses these with EPERM."""
+    """Landlock refuses these with EPERM, but for TCP and devices."""
 
-    def wants_denied(self, script, call, *options, level=1):
+    def wants_denied(self, script, call, *options, level=1, error="EPERM"):
         if landlock.level() < level:
             self.skipTest(f"a kernel of level {landlock.level()}")
         ended = self.tour(script, *options)
         self.assertEqual(ended.returncode, 3, ended.stderr)
         denied = [it for it in self.told(ended) if it.startswith("it would be denied now: ")]
-        self.assertTrue(any(f": {call}" in it and it.endswith(": EPERM") for it in denied), ended.stderr)
+        self.assertTrue(any(f": {call}" in it and it.endswith(f": {error}") for it in denied), ended.stderr)
         self.assertNotIn("each layer that lets it run so", ended.stderr)
 
     def python(self, text):
@@ -71,6 +72,13 @@ class Denials(Verdicts):
             script = f"import socket; socket.socket(socket.AF_UNIX).connect(chr(0) + \"{name}\")"
             script = self.python(script) + " 2>/dev/null"
             self.wants_denied(script, "connect ", "--deny", "abstract_unix_socket", level=6)
+
+    def test_tcp_and_devices(self):
+        script = self.python("import socket; socket.create_server((\"127.0.0.1\", 0))") + " 2>/dev/null"
+        self.wants_denied(script, "bind ", "--deny", "tcp", level=4, error="EACCES")
+        code = "import fcntl, os; fcntl.ioctl(os.open(\"/dev/urandom\", os.O_RDONLY), 0x80045200, bytes(4))"
+        script, options = self.python(code) + " 2>/dev/null", ("--deny", "ioctl_dev", "--to", "two")
+        self.wants_denied(script, "ioctl /dev/urandom RNDGETENTCNT", *options, level=5, error="EACCES")
 
     def test_a_trace_of_another_process(self):
         with subprocess.Popen(["sleep", "60"]) as other:
@@ -180,6 +188,13 @@ class Differences(Verdicts):
         why = "the first run may have read its input, so that the second one had the rest of it alone"
         self.assertEqual(told[place + 1], why)
 
+    def test_a_process_that_is_left(self):
+        output = {}
+        with mock.patch("landtree.outputs.LAST_SECONDS", 0.1), PipeKeeper((1,), self.room / "o").keep(output, "it"):
+            held = os.dup(1)
+        os.close(held)
+        self.assertEqual(output["it"].unknown, "a process that is left has it open")
+
     def test_lines(self):
         files = {}
         for name, data in {"a": b"1\n2", "b": b"1\n2\n", "c": b"", "d": b"1\n\xff", "e": b"1\n" + b"x" * 300}.items():
@@ -209,6 +224,7 @@ class Statuses(Verdicts):
     def test_a_program_that_a_signal_ends(self):
         ended = self.tour("kill -USR1 $$")
         self.assertEqual(ended.returncode, 128 + signal.SIGUSR1, ended.stderr)
+        self.assertIn(RUNS.format(*[128 + signal.SIGUSR1] * 2), self.told(ended))
         note = f"# learned from a run that ended with {128 + signal.SIGUSR1}"
         self.assertEqual(self.first_line_of_the_profile(), note)
 
