@@ -14,7 +14,7 @@ from .commands import Commands
 from .confine import NOT_CONFINED, NOT_RUN, NOT_THERE, NO_ENTRY, become, own_environment, prepare
 from .errors import Fault, LandtreeError, ProgramFault
 from .exported import Exported
-from .lint import beyond_findings, lint, names_of, only_read
+from .lint import OnlyRead, beyond_findings, lint, names_of, only_read
 from .options import ExportOptions, LearnOptions
 from .places import Mapped
 from .policy_text import read_policy
@@ -22,7 +22,7 @@ from .reach import Reach
 from .tour import PACKAGE, Tour, TourOptions, ending_note, need_program, shell_status, tour
 from .trace import convert, record
 from .trace.conversion import names_beside
-from .trace.recording import Recording
+from .trace.recording import Recording, before_of
 from .values import Rights
 
 FOUND, USAGE = 3, 2
@@ -140,16 +140,24 @@ def tour_lines(came: Tour) -> List[str]:
 
 def beyond_lines(came: Tour, name: str) -> List[str]:
     """Returns a line for each directory that the profile lets the program write, where the run only read files."""
-    log = came.recorded.log
-    layers = read_policy(came.policy).profiles[name]
-    return [f"{came.policy}: {it}" for it in beyond_findings(name, layers, only_read(log), log.name)]
+    layers, seen = read_policy(came.policy).profiles[name], read_before(came.recorded.log)
+    return [f"{came.policy}: {it}" for it in beyond_findings(name, layers, seen)] if seen else []
+
+
+def read_before(log: Path) -> Optional[OnlyRead]:
+    """Returns what a run has only read, if there is its recording. One from which that isn't known has a line."""
+    try:
+        return only_read(log) if log.exists() and before_of(log).exists() else None
+    except Fault as fault:
+        say(f"it isn't known which files a run has only read: {fault}")
+        return None
 
 
 def run_lint(options: argparse.Namespace) -> int:
-    beside = Path(options.policy).with_name("run.log")
-    log = options.log or (beside if beside.exists() else None)
+    log = options.log
+    seen = only_read(log) if log else read_before(Path(options.policy).with_name("run.log"))
     mapped = Mapped(options.root or "/", options.map)
-    linted = lint(options.policy, commands_of(options), log=log, mapped=mapped)
+    linted = lint(options.policy, commands_of(options), seen=seen, mapped=mapped)
     for finding in linted.findings:
         print(f"{options.policy}: {finding}")
     for line in linted.open:

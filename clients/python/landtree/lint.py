@@ -49,6 +49,14 @@ class Finding:
 
 
 @dataclass(frozen=True)
+class OnlyRead:
+    """The files that were there before a run, and that it read or executed and didn't change, as its log has it."""
+
+    log: str
+    paths: List[str]
+
+
+@dataclass(frozen=True)
 class Linted:
     """What was found in a policy, and what no layer of any policy can do."""
 
@@ -57,15 +65,14 @@ class Linted:
 
 
 def lint(
-    file: File, commands: Commands = Commands(), *, log: Optional[File] = None, mapped: Mapped = Mapped()
+    file: File, commands: Commands = Commands(), *, seen: Optional[OnlyRead] = None, mapped: Mapped = Mapped()
 ) -> Linted:
     """Looks through each profile of the policy in a file. A policy with a fault raises `Fault` or `ProgramFault`.
 
-    `log` is one that `record` has made, of a run from which the policy was learned. `mapped` says where the policy's
-    paths are on this machine.
+    `seen` is what a run has only read from which the policy was learned. `mapped` says where the policy's paths are on
+    this machine.
     """
     policy = read_policy(file)
-    seen = only_read(log) if log else []
     findings: List[Finding] = []
     if not policy.profiles:
         findings.append(Finding("the policy", "it has no profile"))
@@ -75,7 +82,7 @@ def lint(
             findings += grant_findings(name, commands.rights(file, name))
             findings += replacement_findings(policy, name, layers)
             findings += own_findings(file, name, Reach.of(layers, mapped.real))
-            findings += beyond_findings(name, layers, seen, os.fspath(log or ""))
+            findings += beyond_findings(name, layers, seen) if seen else []
     return Linted(findings, list(OPEN))
 
 
@@ -171,12 +178,12 @@ def names_of(file: File) -> Set[str]:
     return {os.path.join(os.path.realpath(os.path.dirname(path)), os.path.basename(path)), os.path.realpath(path)}
 
 
-def beyond_findings(name: str, layers: Sequence[Layer], seen: Sequence[str], log: str) -> Iterator[Finding]:
-    """Yields each directory that may be written, with the files in it that a run has only read (`seen`)."""
+def beyond_findings(name: str, layers: Sequence[Layer], seen: OnlyRead) -> Iterator[Finding]:
+    """Yields each directory that may be written, with the files in it that a run has only read."""
     reach = Reach.of(layers)
     writable = [rule.path for layer in layers for rule in layer.rules if rule.rights & Rights.WRITE_FILE]
     found: Dict[str, List[str]] = {}
-    for path in seen:
+    for path in seen.paths:
         above = path[: path.rindex("/")] or "/"
         if Rights.WRITE_FILE in reach.rights(path):
             above = max((it for it in writable if is_in(path, it)), key=len, default="/")
@@ -184,7 +191,8 @@ def beyond_findings(name: str, layers: Sequence[Layer], seen: Sequence[str], log
             continue
         found.setdefault(above, []).append(path[len(above.rstrip("/")) + 1 :])
     for directory, those in found.items():
-        yield Finding(f"profile {name}", f"{directory} may be written, where the run only read {some_of(those)} ({log})")
+        text = f"{directory} may be written, where the run only read {some_of(those)} ({seen.log})"
+        yield Finding(f"profile {name}", text)
 
 
 def some_of(texts: Sequence[str]) -> str:
@@ -192,8 +200,8 @@ def some_of(texts: Sequence[str]) -> str:
     return first if len(texts) <= SHOWN else f"{first} and {len(texts) - SHOWN:,} more"
 
 
-def only_read(log: File) -> List[str]:
-    """Returns the paths of the files that were there before a run, and that it read or executed and didn't change."""
+def only_read(log: File) -> OnlyRead:
+    """Returns what a run has only read. A log that `record` hasn't made is a `Fault`."""
     converted = convert(log, whole=True)
     files = [it.path for it in load_policy(converted.nodes).nodes if it.kind == "reg"]
     read: Set[str] = set()
@@ -202,4 +210,4 @@ def only_read(log: File) -> List[str]:
         command, *words = line.partition(" = ")[0].split(" ")
         is_reading = command in ("exec", "list", "stat") or (command == "open" and words[:1] == ["r"])
         (read if is_reading else changed).update(it for it in words if it.startswith("/"))
-    return [it for it in files if it in read and it not in changed]
+    return OnlyRead(os.fspath(log), [it for it in files if it in read and it not in changed])

@@ -210,7 +210,8 @@ class OwnPolicy(Linted):
         self.put("p.toml", self.policy.dumps())
         words = ["lint", "p.toml", "--program", PROGRAM]
         self.assertNotIn("change this policy", self.run_command(*words).stdout)
-        for options in (["--map", f"/w={self.room}"], ["--root", self.put("root/w").parent, "--map", f"/w={self.room}"]):
+        maps = ["--map", f"/w={self.room}"]
+        for options in (maps, ["--root", self.put("root/w").parent, *maps]):
             ended = self.run_command(*words, *options)
             self.assertIn(f"p.toml: {self.TEXT}\n", ended.stdout)
 
@@ -226,7 +227,7 @@ class OnlyRead(Case):
         ended = self.run_command(*words, cwd=self.room / "w")
         self.assertEqual(ended.returncode, 0, ended.stderr)
         text = f"profile learned: {self.room}/w may be written, where the run only read one, src/main, three and 1 more"
-        self.assertIn(f"{text} (run.log)", ended.stderr)
+        self.assertIn(f"{text} ({self.room}/to/run.log)", ended.stderr)
         ended = self.run_command("lint", "to/policy.toml", "--program", PROGRAM)
         self.assertIn(f"{text} (to/run.log)\n", ended.stdout)
         (self.room / "to/run.log").rename(self.room / "other.log")
@@ -238,13 +239,29 @@ class OnlyRead(Case):
         said = "landtree: none.log.before: No such file or directory; `record` makes it beside its log\n"
         self.assertEqual((ended.returncode, ended.stdout, ended.stderr), (2, "", said))
 
+    def test_another_log_beside_it(self):
+        policy = Policy(variables={})
+        policy.allow(policy.layer("p", "all"), "/w", "read")
+        self.put("p.toml", policy.dumps())
+        self.put("run.log", "line\n")
+        words = ["lint", "p.toml", "--program", PROGRAM]
+        ended = self.run_command(*words)
+        self.assertEqual((ended.returncode, ended.stderr), (0, ""))
+        self.put("run.log.before", "{")
+        ended = self.run_command(*words)
+        why = "run.log.before: it isn't what `record` writes"
+        said = f"landtree: it isn't known which files a run has only read: {why}\n"
+        self.assertEqual((ended.returncode, ended.stderr), (0, said))
+        ended = self.run_command(*words, "--log", "run.log")
+        self.assertEqual((ended.returncode, ended.stdout, ended.stderr), (2, "", f"landtree: {why}\n"))
+
     def test_what_may_be_replaced(self):
         self.put("w/f", "one\n")
         self.put("w/g", "one\n")
         script = "cat g; sed -i s/one/two/ f"
         words = ["try", "--program", PROGRAM, "--to", self.room / "to", "--", "sh", "-c", script]
         ended = self.run_command(*words, cwd=self.room / "w")
-        self.assertIn(f"{self.room}/w may be written, where the run only read g (run.log)", ended.stderr)
+        self.assertIn(f"{self.room}/w may be written, where the run only read g ({self.room}/to/run.log)", ended.stderr)
 
     def test_nothing_became_writable(self):
         self.put("w/src/main", "text\n")
