@@ -7,7 +7,7 @@ import os
 import shutil
 import sys
 from pathlib import Path
-from typing import Callable, Dict, List, Optional, Sequence, Tuple
+from typing import Callable, Dict, List, Optional, Sequence
 
 from .command_line import COMMAND, TAKES_PROGRAM, parsed
 from .commands import Commands
@@ -23,7 +23,6 @@ from .tour import PACKAGE, Tour, TourOptions, ending_note, need_program, shell_s
 from .trace import convert, record
 from .trace.conversion import names_beside
 from .trace.recording import Recording, before_of
-from .values import Rights
 
 FOUND, USAGE = 3, 2
 

@@ -246,7 +246,7 @@ class Denying(Executing):
 
     def test_moves_stay_as_the_profile_has_them(self):
         self.policy.allow(self.layer, self.room, "read, write, make, refer")
-        options = ["--deny", "ioctl_dev"] if landlock.level() >= 5 else []
+        options = ["--quiet", *(["--deny", "ioctl_dev"] if landlock.level() >= 5 else [])]
         self.assertEqual(self.shell("mv in/f out/g && cat out/g", options=options), "inside\n")
         script = "import os; os.rename('out/g', 'in/g')"
         self.assertEqual(self.run_exec("/usr/bin/python3", "-c", script, options=options).stderr, "")

@@ -80,7 +80,7 @@ class WholeWay(Case):
     def confined(self, trial, policy, log):
         self.fresh(trial)
         call = [sys.executable, "-I", "-S", "-c", ENTRY, str(PACKAGE), "exec", f"--program={PROGRAM}"]
-        call += [f"--policy={policy}", "--profile=learned", "--", *trial.words]
+        call += ["--quiet", f"--policy={policy}", "--profile=learned", "--", *trial.words]
         ended = self.run_words([*strace_words(log, [*TRACED, ENFORCED]), *call])
         return ended, left(self.work, trial.is_same)
 
