@@ -77,13 +77,13 @@ def run_exec(options: argparse.Namespace) -> int:
 
 
 def own_lines(exported: Exported, options: argparse.Namespace) -> List[str]:
-    """Returns a line for each file that the next start takes as it is, and that the program may change."""
+    """Returns a line if the program may change the policy, the program landtree or this package."""
     reach = Reach.of(exported.layers, Mapped(exported.root, options.map).real)
     program = shutil.which(options.program) or options.program
-    taken = [(it, "reg") for file in (options.policy, program) for it in sorted(names_of(file))]
-    taken += [(str(PACKAGE / "landtree"), "dir")]
-    changed = [path for path, kind in taken if reach.may_change(path, kind)]
-    return [f"the profile lets the program change {it}, which the next start takes as it is then" for it in changed]
+    used = [(it, "reg") for file in (options.policy, program) for it in sorted(names_of(file))]
+    used += [(str(PACKAGE / "landtree"), "dir")]
+    changed = ", ".join(path for path, kind in used if reach.may_change(path, kind))
+    return [f"the profile lets the program change {changed}: the next start uses what is there then"] if changed else []
 
 
 def export_options(options: argparse.Namespace) -> ExportOptions:

@@ -12,7 +12,7 @@ from .trace.reader import TRACED
 # What Landlock refuses with: EPERM for mounts, ptrace, signals and abstract sockets.
 REFUSED = ("EACCES", "EXDEV", "EPERM")
 ENFORCED = "landlock_restrict_self"
-# Calls that each layer restricts, beside those that are recorded. An older strace may not know one with a question mark.
+# Calls that each layer restricts, beside those that are recorded. A question mark: an older strace may not know it.
 ALWAYS = ("ptrace", "process_vm_readv", "process_vm_writev", "?pidfd_getfd", "kcmp")
 OF_WORD: Dict[str, Tuple[str, ...]] = {
     "tcp": ("bind", "connect"),

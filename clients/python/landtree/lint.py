@@ -168,7 +168,7 @@ def replacement_findings(policy: Policy, name: str, layers: Sequence[Layer]) -> 
 def own_findings(file: File, name: str, reach: Reach) -> Iterator[Finding]:
     """Yields whether a program may change the policy's own file, by one of its names."""
     if any(reach.may_change(it, "reg") for it in names_of(file)):
-        text = "it lets a run change this policy, and the next start takes what the policy says then"
+        text = "it lets a run change this policy, and the next start uses what the policy says then"
         yield Finding(f"profile {name}", text)
 
 

@@ -164,7 +164,7 @@ class Replacing(Linted):
 
 
 class OwnPolicy(Linted):
-    TEXT = "profile p: it lets a run change this policy, and the next start takes what the policy says then"
+    TEXT = "profile p: it lets a run change this policy, and the next start uses what the policy says then"
 
     def changes(self, path, rights, mapped=Mapped()):
         self.policy = Policy(variables={})

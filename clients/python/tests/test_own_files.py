@@ -1,4 +1,4 @@
-"""What `exec` says of files that its next start takes, and that the profile lets the program change."""
+"""What `exec` says of files that its next start uses, and that the profile lets the program change."""
 
 import os
 import shutil
@@ -9,7 +9,7 @@ from tests.support import LONGEST, PACKAGE, PROGRAM, Case, needs_landlock
 
 from landtree import Policy
 
-SAID = "landtree: the profile lets the program change {}, which the next start takes as it is then\n"
+SAID = "landtree: the profile lets the program change {}: the next start uses what is there then\n"
 
 
 @needs_landlock
@@ -57,6 +57,7 @@ class OwnFiles(Case):
         fake = self.put("work/landtree", f'#!/bin/sh\nexec {PROGRAM} "$@"\n')
         fake.chmod(0o755)
         self.assertEqual(self.told(program=fake), SAID.format(fake))
+        self.assertEqual(self.told(program=fake, file="work/p.toml"), SAID.format(f"{self.room}/work/p.toml, {fake}"))
         shutil.copytree(PACKAGE / "landtree", self.room / "work/package/landtree")
         shutil.copy(PACKAGE / "landtree-sandbox", self.room / "work/package/landtree-sandbox")
         said = self.told(command=self.room / "work/package/landtree-sandbox")
