@@ -1,5 +1,8 @@
-/* The memory of the module that a page runs. Blocks have sizes of 16 * 2^k or 24 * 2^k bytes, and each size has a list of
-   free blocks. New ones are cut from the end of the memory, which grows and never shrinks. */
+/* The memory of the module that a page runs. Blocks have sizes of 16 * 2^k or 24 * 2^k bytes, begin at multiples of 16,
+   and each size has a list of free blocks. New ones are cut from the end of the memory, which grows and never shrinks.
+
+   tools/page makes this for pointers of 64 bits, and binaryen then makes 32 of them: addresses from 4 GiB on would mean
+   those from 0 on, and what memory.grow answers comes without its sign. */
 typedef unsigned long size_t;
 
 struct rattle_tried {
@@ -8,6 +11,9 @@ struct rattle_tried {
 };
 
 enum { HEAD = 16, PAGE = 65536, SIZES = 96 };
+
+/* So many addresses there are. */
+static const size_t ADDRESSES = (size_t)1 << 32;
 
 extern unsigned char __heap_base;
 
@@ -29,8 +35,9 @@ static size_t size_of(unsigned number) {
 
 static unsigned number_at(void *bytes) { return (unsigned)*(size_t *)((char *)bytes - HEAD); }
 
+/* A number of 32 bits is -1 where the memory can't grow. */
 static int grow(size_t pages) {
-    if (__builtin_wasm_memory_grow(0, pages) == (size_t)-1) return 0;
+    if ((unsigned)__builtin_wasm_memory_grow(0, pages) == (unsigned)-1) return 0;
     end += pages * PAGE;
     return 1;
 }
@@ -47,7 +54,8 @@ static void *take(size_t size) {
         next = ((size_t)&__heap_base + 15) & ~(size_t)15;
         end = __builtin_wasm_memory_size(0) * PAGE;
     }
-    size_t all = size_of(number) + HEAD;
+    size_t all = (HEAD + size_of(number) + 15) & ~(size_t)15;
+    if (all > ADDRESSES - next) return 0;
     if (end - next < all) {
         size_t pages = (all - (end - next) + PAGE - 1) / PAGE, quarter = end / PAGE / 4;
         if (!(quarter > pages && grow(quarter)) && !grow(pages)) return 0;
@@ -77,7 +85,7 @@ struct rattle_tried rattle_realloc(void *bytes, size_t kept, size_t size, size_t
     size_t wanted = size != 0 ? size : align, had = size_of(number_at(bytes));
     if (wanted <= had && wanted > had / 4) return tried(bytes);
     void *moved = take(wanted);
-    if (moved == 0) return tried(0);
+    if (moved == 0) return tried(wanted <= had ? bytes : 0);
     __builtin_memcpy(moved, bytes, kept < wanted ? kept : wanted);
     give(bytes);
     return tried(moved);

@@ -16,6 +16,7 @@ const decoder = new TextDecoder();
 
 export const DONE = 0;
 export const ENDED = 3;
+const OUT_OF_MEMORY = 4;
 const TOO_SHORT = 5;
 
 // The forms of a report on checks and of a table of rights, by their numbers.
@@ -26,6 +27,15 @@ const TABLES = ['usual', 'layers', 'json'];
 const HIGHEST = 2n ** 64n - 1n;
 const bitsOf = (number) => (BigInt(number) === BigInt.asUintN(64, BigInt(number)) ? BigInt(number) : HIGHEST);
 
+// The bytes that an instance may hold and still be asked again. Its memory never shrinks, and is full at 4 GiB.
+const KEPT = 2 ** 28;
+
+// Whether an instance has trapped, has no room, or names what its memory doesn't have; or a text is too long for a string.
+function isOutOfMemory(error) {
+  const isOfModule = error instanceof WebAssembly.RuntimeError || error instanceof RangeError;
+  return isOfModule || error.code === 'ERR_STRING_TOO_LONG';
+}
+
 // A server may have unpacked the file already.
 function unpacked(bytes) {
   const [first, second] = new Uint8Array(bytes);
@@ -35,37 +45,44 @@ function unpacked(bytes) {
 
 // Makes an instance of the module in the bytes of landtree.wasm.gz, packed or not.
 export async function load(bytes) {
-  const { instance } = await WebAssembly.instantiate(await unpacked(bytes), {});
-  return new Landtree(instance.exports);
+  const { module, instance } = await WebAssembly.instantiate(await unpacked(bytes), {});
+  return new Landtree(instance.exports, () => new WebAssembly.Instance(module, {}).exports);
 }
 
 export class Landtree {
   #module;
-  #room = 65536;
+  #another;
+  #room;
   #out;
   #length;
 
-  constructor(module) {
+  // Takes what an instance exports, and what returns the exports of another one.
+  constructor(module, another) {
+    this.#another = another;
+    this.#begin(module);
+  }
+
+  #begin(module) {
     this.#module = module;
+    this.#room = 65536;
     this.#out = this.#take(this.#room);
     this.#length = this.#take(8);
   }
 
   #take(size) {
     const at = this.#module.landtree_take(BigInt(size));
-    if (at === 0n) throw Object.assign(new Error('no memory'), { code: 'ENOMEM' });
+    if (at === 0n) throw new RangeError('no memory');
     return at;
   }
 
   // Lends a text: appends its place and its length.
-  #lend(text, lent) {
-    const bytes = typeof text === 'string' ? encoder.encode(text) : text;
+  #lend(bytes, lent) {
     const at = this.#take(bytes.length);
     lent.push([at, BigInt(bytes.length)]);
     new Uint8Array(this.#module.memory.buffer, Number(at), bytes.length).set(bytes);
   }
 
-  #ask(name, numbers, texts) {
+  #answer(name, numbers, texts) {
     const lent = [];
     try {
       for (const it of texts) this.#lend(it, lent);
@@ -82,6 +99,21 @@ export class Landtree {
       }
     } finally {
       for (const [at] of lent) this.#module.landtree_give(at);
+    }
+  }
+
+  // An instance that has failed, or that holds too much, isn't asked again.
+  #ask(name, numbers, texts) {
+    const given = texts.map((it) => (typeof it === 'string' ? encoder.encode(it) : it));
+    try {
+      if (this.#module === null) this.#begin(this.#another());
+      const told = this.#answer(name, numbers, given);
+      if (told.status === OUT_OF_MEMORY || this.memory > KEPT) this.#module = null;
+      return told;
+    } catch (error) {
+      if (!isOutOfMemory(error)) throw error;
+      this.#module = null;
+      return fault(OUT_OF_MEMORY, 'landtree: no memory\n');
     }
   }
 
@@ -106,9 +138,9 @@ export class Landtree {
     return this.#ask('landtree_check', numbers, [policy, profile, name, checks]);
   }
 
-  // The bytes of the module's memory, which never shrinks.
+  // The bytes of the instance's memory, which never shrinks.
   get memory() {
-    return this.#module.memory.buffer.byteLength;
+    return this.#module?.memory.buffer.byteLength ?? 0;
   }
 
   policy(policy) {
@@ -149,7 +181,7 @@ const fault = (status, text) => ({ status, bytes: encoder.encode(text), text, is
 const WRONG = fault(2, 'landtree: command line\n');
 const NO_FILE = fault(1, 'landtree: file\n');
 const NO_OUTPUT = fault(1, 'landtree: output\n');
-const NO_MEMORY = fault(4, 'landtree: no memory\n');
+const NO_MEMORY = fault(OUT_OF_MEMORY, 'landtree: no memory\n');
 
 // What follows an option: each returns the value of a word, and undefined for a wrong one or none. An empty text or a 0
 // stands for none that is given.
