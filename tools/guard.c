@@ -1,6 +1,6 @@
 /* Memory whose blocks each end where the next page may neither be read nor written, so that whatever passes a block's end
-   ends the program, and so does whatever uses a block that was given back. Bytes just before a block mustn't change; that
-   is found when it is given back. tools/try-library has the allocators of clients/c take this for malloc. */
+ * ends the program, and so does whatever uses a block that was given back. Bytes just before a block mustn't change; that
+ * is found when it is given back. tools/try-library has the allocators of clients/c take this for malloc. */
 #define _GNU_SOURCE
 #include <stdint.h>
 #include <stdio.h>
