@@ -4,7 +4,7 @@ import os
 import socket
 from unittest import mock
 
-from tests.preparing import Prepared, exported, layer
+from tests.preparation import Prepared, exported, layer
 from tests.support import PROGRAM, Case, needs_landlock
 
 from landtree import Policy, landlock

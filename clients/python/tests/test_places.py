@@ -3,7 +3,7 @@
 import os
 from unittest import mock
 
-from tests.preparing import Prepared
+from tests.preparation import Prepared
 from tests.support import Case, needs_landlock
 
 from landtree.confine import prepare
