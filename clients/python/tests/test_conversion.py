@@ -200,5 +200,5 @@ class Inventories(Case):
         self.put("d/new")
         self.assertIsNone(inventory.entry(str(self.room / "d/new")))
         self.assertEqual(inventory.entry(str(self.room / "d/old")).kind, "reg")
-        self.assertEqual(inventory.first_in(str(self.room / "d")), "old")
-        self.assertIsNone(inventory.first_in(str(self.room / "d/old")))
+        self.assertEqual(inventory.names_in(str(self.room / "d")), ["old"])
+        self.assertEqual(inventory.names_in(str(self.room / "d/old")), [])

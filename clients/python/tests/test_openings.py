@@ -116,7 +116,8 @@ class Openings(Tracing):
 
     def test_not_known(self):
         line = 'openat(9, "f", O_RDONLY) = 3'
-        self.assertEqual((self.commands(line), self.notes(line)), ([], []))
+        text = "it isn't known which file openat has opened: 9, \"f\": it isn't known in which directory it begins"
+        self.assertEqual((self.commands(line), self.notes(line)), ([], [(1, text)]))
         line = 'openat(AT_FDCWD</w>, "none/f", O_RDONLY) = 3</elsewhere/f>(deleted)'
         self.assertEqual(len(self.notes(line)), 1)
 

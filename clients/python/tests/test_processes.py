@@ -121,5 +121,5 @@ class Trees(Tracing):
     def test_loops(self):
         lines = ['open("loop", O_RDONLY) = -1 ELOOP (..)', 'unlink("loop") = 0']
         self.assertEqual(self.commands(*lines), ["unlink /w/loop"])
-        text = 'it isn\'t known which file truncate names: "loop/x"'
+        text = 'it isn\'t known which file truncate names: "loop/x": it leads through over 40 links'
         self.assertEqual(self.notes('truncate("loop/x", 0) = 0'), [(1, text)])

@@ -14,14 +14,20 @@ from ..landlock import birth_of
 MOST = 1_000_000
 # Directories of the kernel's own, in which files have no date that says when they came.
 TIMELESS = ("/proc/", "/sys/", "/dev/")
+# In these of them anybody may make files, and the dates of these are kept.
+TIMELY = ("/dev/shm/", "/dev/mqueue/")
 
 
 class Entry(NamedTuple):
-    """A file: its kind as a policy has it, the text of a link, and of a file with several names what these share."""
+    """A file: its kind as a policy has it, the text of a link, and of a file with several names what these share.
+
+    `is_changed` says that a link, or what lies beside it, has changed since the program began: it may be another one.
+    """
 
     kind: str
     link: Optional[str] = None
     key: Optional[Tuple[int, int]] = None
+    is_changed: bool = False
 
 
 def entry_of(path: str) -> Optional[Entry]:
@@ -48,6 +54,8 @@ class Inventory:
     directories: List[str]
     began: float
     entries: Dict[str, Entry] = field(default_factory=dict)
+    # The names in each directory, once somebody has asked for those of one.
+    _names: Dict[str, List[str]] = field(default_factory=dict, init=False, repr=False, compare=False)
 
     def covers(self, path: str) -> bool:
         return any(path == it or path.startswith(it.rstrip("/") + "/") for it in self.directories)
@@ -57,29 +65,40 @@ class Inventory:
         if self.covers(path):
             return self.entries.get(path)
         entry = entry_of(path)
-        return entry if entry and not self.came_later(path) else None
+        if entry is None or self.came_later(path):
+            return None
+        return entry._replace(is_changed=True) if entry.kind == "sym" and self.has_changed(path) else entry
 
     def came_later(self, path: str) -> bool:
-        if path.startswith(TIMELESS):
-            return False
-        try:
-            if os.lstat(path).st_ctime < self.began:
-                return False
-        except OSError:
+        if is_timeless(path) or not self.is_late(path):
             return False
         birth = birth_of(path)
         return birth is not None and birth >= self.began
 
-    def first_in(self, directory: str) -> Optional[str]:
-        """Returns the first name that lay in a directory, if any did."""
+    def has_changed(self, link: str) -> bool:
+        """Says whether a link may have got its name since, or its directory may have got its own."""
+        return not is_timeless(link) and (self.is_late(link) or self.is_late(os.path.dirname(link)))
+
+    def is_late(self, path: str) -> bool:
+        try:
+            return os.lstat(path).st_ctime >= self.began
+        except OSError:
+            return False
+
+    def names_in(self, directory: str) -> List[str]:
+        """Returns the names that lay in a directory, in order."""
         if not self.covers(directory):
-            try:
-                return min(os.listdir(directory), default=None)
-            except OSError:
-                return None
-        above = directory.rstrip("/") + "/"
-        names = (it[len(above) :] for it in self.entries if it.startswith(above))
-        return min((it for it in names if it and "/" not in it), default=None)
+            return sorted(os.path.basename(it) for it in paths_in(directory))
+        if not self._names:
+            for path in sorted(self.entries):
+                above, _, name = path.rpartition("/")
+                if name:
+                    self._names.setdefault(above or "/", []).append(name)
+        return self._names.get(directory, [])
+
+
+def is_timeless(path: str) -> bool:
+    return path.startswith(TIMELESS) and not path.startswith(TIMELY)
 
 
 def inventory_of(directories: Iterable[str], began: float) -> Inventory:
@@ -98,11 +117,11 @@ def inventory_of(directories: Iterable[str], began: float) -> Inventory:
         if len(taken.entries) > MOST:
             raise Fault(f"{', '.join(taken.directories)}: over {MOST:,} files lie there, too many to be listed")
         if entry.kind == "dir":
-            waiting += names_in(path)
+            waiting += paths_in(path)
     return taken
 
 
-def names_in(path: str) -> List[str]:
+def paths_in(path: str) -> List[str]:
     try:
         return [os.path.join(path, name) for name in os.listdir(path)]
     except OSError:

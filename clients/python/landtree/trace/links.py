@@ -2,32 +2,28 @@
 
 from __future__ import annotations
 
-import re
 from typing import Dict, Optional
 
-from .events import Ask, Event, Move, Opened, Process, Trace, command
+from .events import Ask, Event, Move, command
+from .holders import Opened, Process
 from .log import Call, descriptor_of, string_of
 from .namings import Named, find
 from .openings import Handler
-from .tree import Spot
-
-OWN_DESCRIPTOR = re.compile(r"/proc/(?:self|thread-self|\d+)/fd/(\d+)")
+from .state import Trace
+from .tree import Spot, Unknown
 
 
 def linking(trace: Trace, call: Call, process: Process, old: Named, new: Named, flags: str) -> None:
     if not call.is_done:
         return
-    opened = opened_of(process, old, flags)
+    opened = opened_of(trace, process, old, flags)
     second = find(trace, call, process, new)
     if second is None:
         return
-    if opened is not None and opened.node is not None and opened.chain:
-        if opened.chain[-1] is not opened.node:
-            link_nameless(trace, call, opened, second)
-            return
-        first = trace.at_path(opened.path)
-    else:
-        first = find(trace, call, process, old, "AT_SYMLINK_FOLLOW" in flags)
+    if opened is not None and opened.is_nameless:
+        link_nameless(trace, call, opened, second)
+        return
+    first = source(trace, call, process, old, flags)
     if first is None:
         return
     node = first.node or trace.tree.infer(first, "reg")
@@ -43,14 +39,34 @@ def linking(trace: Trace, call: Call, process: Process, old: Named, new: Named, 
     trace.tree.put(second.directory, second.name, node)
 
 
-def opened_of(process: Process, old: Named, flags: str) -> Optional[Opened]:
+def is_empty(old: Named, flags: str) -> bool:
+    """Says whether a link is made of the descriptor itself, and not of a path that begins there."""
+    return string_of(old[1]) == "" and "AT_EMPTY_PATH" in flags
+
+
+def source(trace: Trace, call: Call, process: Process, old: Named, flags: str) -> Optional[Spot]:
+    """Returns the file that gets the link, or notes that it isn't known."""
+    if not is_empty(old, flags):
+        return find(trace, call, process, old, "AT_SYMLINK_FOLLOW" in flags)
+    found = descriptor_of(old[0] or "")
+    spot = trace.at_path(found.path) if found and found.path and not found.is_deleted else None
+    if spot is None:
+        trace.note(call, f"it isn't known which file {call.name} names: {old[0]}")
+    return spot
+
+
+def opened_of(trace: Trace, process: Process, old: Named, flags: str) -> Optional[Opened]:
     """Returns the open file that a link is made of, if it is named by a descriptor."""
-    path = string_of(old[1])
-    if path == "" and "AT_EMPTY_PATH" in flags:
+    if is_empty(old, flags):
         found = descriptor_of(old[0] or "")
-        return process.files.get(found.number) if found and found.number is not None else None
-    own = OWN_DESCRIPTOR.fullmatch(path or "")
-    return process.files.get(int(own[1])) if own and "AT_SYMLINK_FOLLOW" in flags else None
+        return process.files.opened.get(found.number) if found and found.number is not None else None
+    path = string_of(old[1]) if "AT_SYMLINK_FOLLOW" in flags else None
+    try:
+        link = trace.find(process, None, path, False) if path else None
+    except Unknown:
+        return None
+    holder = trace.processes.get(link.node.holder) if link and link.node and link.node.holder is not None else None
+    return holder.files.opened.get(int(link.name)) if holder and link and link.name.isdigit() else None
 
 
 def link_nameless(trace: Trace, call: Call, opened: Opened, second: Spot) -> None:
@@ -61,6 +77,7 @@ def link_nameless(trace: Trace, call: Call, opened: Opened, second: Spot) -> Non
     if opened.chain[-1] is not second.directory:
         trace.note(call, f"no policy can say that a file without a name in {opened.path} gets the name {path}")
     trace.tree.put(second.directory, second.name, opened.node)
+    opened.spot = Spot(second.directory, second.name, opened.node)
     asks = [Ask("make_reg", entered)]
     made = command("make", "reg", path)
     trace.add(Event(call.line, [made], asks, made=opened.node, changed=[opened.node]))

@@ -9,6 +9,15 @@ LOADER_HEADER = 3
 USUAL_LOADER = "/lib64/ld-linux-x86-64.so.2"
 
 
+def is_script(path: str) -> bool:
+    """Says whether a file names an interpreter, which is the program then."""
+    try:
+        with open(path, "rb") as file:
+            return file.read(2) == b"#!"
+    except OSError:
+        return False
+
+
 def interpreter_of(path: str) -> Optional[str]:
     """Returns the path of the interpreter or loader that a program names, None if it names none.
 

@@ -7,8 +7,8 @@ from __future__ import annotations
 
 import os
 import re
-from dataclasses import dataclass
-from typing import Dict, Iterator, List, Optional, Set, Tuple
+from dataclasses import dataclass, field
+from typing import Collection, Dict, Iterator, List, Optional, Set, Tuple, Union
 
 from ..errors import Fault, shown
 
@@ -30,8 +30,8 @@ PAIRS = {"(": ")", "[": "]", "{": "}"}
 class Call:
     """A call that ended.
 
-    `line` counts from 1 and is where it ended. `result` is None where strace knows none. `error` is the name of an
-    errno, or empty. `returned` is what strace says of the descriptor that is the result.
+    `line` counts from 1 and is where it ended, and `began` is where it began. `result` is None where strace knows none.
+    `error` is the name of an errno, or empty. `returned` is what strace says of the descriptor that is the result.
     """
 
     line: int
@@ -41,10 +41,23 @@ class Call:
     result: Optional[int]
     error: str = ""
     returned: str = ""
+    began: int = field(default=0, compare=False)
 
     @property
     def is_done(self) -> bool:
         return self.result is not None and self.result >= 0
+
+
+@dataclass(frozen=True)
+class End:
+    """The end of a process, or of a thread. After it another one may get its number.
+
+    `heir` is the number under which a thread goes on that has executed a program: that of its process.
+    """
+
+    line: int
+    process: int
+    heir: Optional[int] = None
 
 
 @dataclass(frozen=True)
@@ -117,7 +130,7 @@ def arguments_of(text: str) -> Optional[Tuple[List[str], int]]:
     return None
 
 
-def call_of(line: int, process: int, text: str) -> Optional[Call]:
+def call_of(line: int, process: int, text: str, began: int) -> Optional[Call]:
     """Returns the call that a whole line has after the number of its process."""
     head = CALL.match(text)
     arguments = arguments_of(text[head.end() :]) if head else None
@@ -130,44 +143,55 @@ def call_of(line: int, process: int, text: str) -> Optional[Call]:
     rest = result[2].strip()
     error = rest.split(" ")[0] if number is not None and number < 0 else ""
     returned = rest if rest.startswith("<") else ""
-    return Call(line, process, head[1], tuple(arguments[0]), number, error, returned)
+    return Call(line, process, head[1], tuple(arguments[0]), number, error, returned, began)
 
 
 class Log:
-    """What has been read of a log so far: the calls that are under way, and the processes that have ended."""
+    """What has been read of a log so far: the calls that are under way, and the processes that have ended.
 
-    def __init__(self, file: str) -> None:
+    Of calls with other names than the `wanted` ones nothing is read but where they are.
+    """
+
+    def __init__(self, file: str, wanted: Optional[Collection[str]] = None) -> None:
         self.file = file
-        self.under_way: Dict[int, str] = {}
+        self.wanted = wanted
+        self.under_way: Dict[int, Tuple[int, str]] = {}
         self.living: Set[int] = set()
+        # The lines in which each process has begun that had this number.
+        self.starts: Dict[int, List[int]] = {}
 
-    def taken(self, line: int, text: str) -> Optional[Call]:
-        """Takes a line, and returns the call that ends in it, if one does."""
+    def taken(self, line: int, text: str) -> "Union[Call, End, None]":
+        """Takes a line, and returns the call that ends in it, or the process, if one does."""
         head = HEAD.fullmatch(text)
         if not head:
             raise self.fault(line, text)
         process, rest = int(head[1]), head[2]
+        if process not in self.living:
+            self.living.add(process)
+            self.starts.setdefault(process, []).append(line)
         if rest.startswith("+++"):
-            self.take_end(line, process, rest)
-            return None
-        self.living.add(process)
+            return self.take_end(line, process, rest)
         if rest.startswith("---"):
             return None
+        began = line
         resumed = RESUMED.fullmatch(rest)
         if resumed:
             if process not in self.under_way:
                 raise self.fault(line, text)
-            rest = self.under_way.pop(process) + resumed[2]
+            began, start = self.under_way.pop(process)
+            rest = start + resumed[2]
         unfinished = UNFINISHED.fullmatch(rest)
         if unfinished:
-            self.under_way[process] = unfinished[1]
+            self.under_way[process] = (began, unfinished[1])
             return None
-        call = call_of(line, process, rest)
+        if self.wanted is not None and rest.partition("(")[0] not in self.wanted:
+            return None
+        call = call_of(line, process, rest, began)
         if call is None:
             raise self.fault(line, text)
         return call
 
-    def take_end(self, line: int, process: int, text: str) -> None:
+    def take_end(self, line: int, process: int, text: str) -> End:
         superseded = SUPERSEDED.fullmatch(text)
         if superseded:
             # A thread has executed a program: it goes on with the number of its process.
@@ -175,29 +199,34 @@ class Log:
             self.living.discard(thread)
             if thread in self.under_way:
                 self.under_way[process] = self.under_way.pop(thread)
-        elif ENDED.fullmatch(text):
-            self.living.discard(process)
-            self.under_way.pop(process, None)
-        else:
+            return End(line, thread, process)
+        if not ENDED.fullmatch(text):
             raise self.fault(line, f"{process} {text}")
+        self.living.discard(process)
+        self.under_way.pop(process, None)
+        return End(line, process)
 
     def fault(self, line: int, text: str) -> Fault:
         return Fault(f"{self.file}:{line}: no line of strace's: {shown(text)}")
 
 
-def calls(file: "os.PathLike[str] | str") -> Iterator[Call]:
-    """Yields the calls of a log. A line that isn't strace's raises `Fault`, and so does a log that was cut."""
-    log = Log(os.fspath(file))
+def entries(log: Log) -> "Iterator[Union[Call, End]]":
+    """Yields what the lines of a log say. A line that isn't strace's raises `Fault`, and so does a log that was cut."""
     line = 0
-    with open(file, encoding="utf-8", errors="surrogateescape", newline="\n") as lines:
+    with open(log.file, encoding="utf-8", errors="surrogateescape", newline="\n") as lines:
         for line, text in enumerate(lines, 1):
             if not text.endswith("\n"):
                 raise Fault(f"{log.file}:{line}: the log was cut in this line")
-            call = log.taken(line, text[:-1])
-            if call:
-                yield call
+            entry = log.taken(line, text[:-1])
+            if entry:
+                yield entry
     if not line:
         raise Fault(f"{log.file}: the log is empty")
     if log.living:
         whose = f"the end of process {min(log.living)} is missing"
         raise Fault(f"{log.file}:{line}: the log was cut after this line: {whose}")
+
+
+def calls(file: "os.PathLike[str] | str") -> Iterator[Call]:
+    """Yields the calls of a log, whose faults are those of `entries`."""
+    return (it for it in entries(Log(os.fspath(file))) if isinstance(it, Call))

@@ -5,10 +5,12 @@ from __future__ import annotations
 import re
 from typing import Dict, List, Optional, Tuple
 
-from .events import Ask, Event, Move, Process, Trace, command
+from .events import Ask, Event, Move, command
+from .holders import Process
 from .log import Call, string_of
 from .openings import Handler
-from .tree import Chain, Node, Spot
+from .state import Trace
+from .tree import Chain, Node, Spot, Unknown
 
 NOT_EMPTY = "refused 7 ENOTEMPTY"
 KIND_OF_MODE = {"S_IFIFO": "fifo", "S_IFSOCK": "sock", "S_IFCHR": "char", "S_IFBLK": "block"}
@@ -19,12 +21,16 @@ Named = Tuple[Optional[str], str]
 def find(trace: Trace, call: Call, process: Process, place: Named, follow: bool = False) -> Optional[Spot]:
     """Returns the spot that a call names, or notes that it isn't known."""
     path = string_of(place[1])
-    start = trace.start_of(process, place[0])
+    start = trace.start_of(call, process, place[0])
     if path is not None and not follow:
         path = path.rstrip("/") or "/"  # A slash at the end says that it is a directory: no link is followed.
-    spot = trace.find(process, start, path, follow) if path is not None else None
+    why = ""
+    try:
+        spot = trace.find(process, start, path, follow) if path is not None else None
+    except Unknown as reason:
+        spot, why = None, f": {reason}"
     if spot is None:
-        trace.note(call, f"it isn't known which file {call.name} names: {place[1]}")
+        trace.note(call, f"it isn't known which file {call.name} names: {place[1]}{why}")
     return spot
 
 
@@ -226,6 +232,7 @@ HANDLERS: Dict[str, Handler] = {
     "mknodat": on_mknodat,
     "bind": on_bind,
     "truncate": on_truncate,
+    "truncate64": on_truncate,
     "unlink": on_unlink,
     "unlinkat": on_unlinkat,
     "rmdir": on_rmdir,

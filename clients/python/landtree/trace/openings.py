@@ -2,12 +2,15 @@
 
 from __future__ import annotations
 
+import posixpath
 import re
 from typing import Callable, Dict, List, Optional, Set
 
-from .events import Ask, Command, Event, Opened, Process, Trace, command, lasting
-from .log import Call, descriptor_of, string_of
-from .tree import Node, Spot
+from .events import Ask, Command, Event, command, lasting
+from .holders import Opened, Process
+from .log import Call, Descriptor, descriptor_of, string_of
+from .state import Trace, returned_of
+from .tree import Node, Spot, Unknown
 
 Handler = Callable[[Trace, Call, Process], None]
 # The reply to an open of a directory, which is refused only after the layers were asked.
@@ -40,11 +43,10 @@ def on_openat(trace: Trace, call: Call, process: Process) -> None:
 
 def on_openat2(trace: Trace, call: Call, process: Process) -> None:
     found = re.search(r"flags=([^,}]+)", call.arguments[2])
-    if "RESOLVE_IN_ROOT" in call.arguments[2]:
-        true_opening(trace, call, process, flags_of(found[1] if found else "O_RDONLY"))
-    else:
-        flags = flags_of(found[1] if found else "O_RDONLY")
-        opening(trace, call, process, (call.arguments[0], call.arguments[1]), flags)
+    flags = flags_of(found[1] if found else "O_RDONLY")
+    # A path of RESOLVE_IN_ROOT begins at the descriptor, whatever it is.
+    place = (call.arguments[0], "" if "RESOLVE_IN_ROOT" in call.arguments[2] else call.arguments[1])
+    opening(trace, call, process, place, flags)
 
 
 def flags_of(text: str) -> Set[str]:
@@ -54,39 +56,62 @@ def flags_of(text: str) -> Set[str]:
 def opening(
     trace: Trace, call: Call, process: Process, place: "tuple[Optional[str], str]", flags: Set[str]
 ) -> None:
-    """Takes an open of a path from a directory (`place`), by these flags."""
+    """Takes an open of a path from a directory (`place`), by these flags.
+
+    What strace says of the new descriptor is taken rather than where the path seems to lead.
+    """
     if not trace.passed(call):
         return
-    path = string_of(place[1])
-    start = trace.start_of(process, place[0])
-    spot = trace.find(process, start, path, "O_NOFOLLOW" not in flags) if path is not None else None
-    if spot is None:
-        true_opening(trace, call, process, flags)
+    returned = returned_of(call)
+    if returned is not None and is_no_file(returned):
+        process.files.put(returned.number or 0, None)  # A pipe or a socket: nothing is asked.
         return
-    returned = descriptor_of(f"{call.result}{call.returned}")
-    true_path = returned.path if returned and not returned.is_deleted else None
-    found = trace.tree.path_of(spot)
-    if true_path not in (None, found) and "O_TMPFILE" not in flags and not found.startswith("/proc/"):
-        trace.note(call, f"it has opened {true_path}, where {found} was expected")
-    open_spot(trace, call, process, spot, flags)
-
-
-def true_opening(trace: Trace, call: Call, process: Process, flags: Set[str]) -> None:
-    """Takes an open whose path can't be followed, by what strace says of the new descriptor."""
-    returned = descriptor_of(f"{call.result}{call.returned}")
-    spot = trace.at_path(returned.path) if returned and returned.path and not returned.is_deleted else None
-    if spot is not None:
-        open_spot(trace, call, process, spot, flags)
-    elif call.is_done and returned and (returned.path is None or returned.path.startswith("/memfd:")):
-        process.files.pop(returned.number or 0, None)  # A pipe or a socket: nothing is asked.
+    guess, why = guessed(trace, call, process, place, flags)
+    path = true_path(returned, flags)
+    true = trace.at_path(path) if path else None
+    if guess is None and true is None:
+        trace.note(call, f"it isn't known which file {call.name} has opened: {', '.join(call.arguments[:2])}{why}")
+    elif guess is None or path is None or trace.tree.path_of(guess) == path:
+        open_spot(trace, call, process, guess or true, flags)
     else:
-        trace.note(call, f"it isn't known which file {call.name} has opened: {', '.join(call.arguments[:2])}")
+        expected = trace.tree.path_of(guess)
+        if not (path.startswith("/proc/") and expected.startswith("/proc/")):
+            trace.note(call, f"it has opened {path}, where {expected} was expected")
+        open_spot(trace, call, process, true, flags)
 
 
-def open_spot(trace: Trace, call: Call, process: Process, spot: Spot, flags: Set[str]) -> None:
+def is_no_file(returned: Descriptor) -> bool:
+    """Says whether an open has found a pipe, a socket or a file of no file system, as by a link of /proc."""
+    return returned.path is None or returned.path.startswith("/memfd:")
+
+
+def true_path(returned: Optional[Descriptor], flags: Set[str]) -> Optional[str]:
+    """Returns the path of what was opened, if strace shows it: of a file without a name that of its directory."""
+    if returned is None or returned.path is None:
+        return None
+    if "O_TMPFILE" in flags:
+        return posixpath.dirname(returned.path)
+    return None if returned.is_deleted else returned.path
+
+
+def guessed(
+    trace: Trace, call: Call, process: Process, place: "tuple[Optional[str], str]", flags: Set[str]
+) -> "tuple[Optional[Spot], str]":
+    """Returns where a path seems to lead, or why that isn't known."""
+    path = string_of(place[1]) if place[1] else None
+    start = trace.start_of(call, process, place[0])
+    try:
+        return (trace.find(process, start, path, "O_NOFOLLOW" not in flags) if path is not None else None), ""
+    except Unknown as reason:
+        return None, f": {reason}"
+
+
+def open_spot(trace: Trace, call: Call, process: Process, spot: Optional[Spot], flags: Set[str]) -> None:
     """Takes an open of what is at a spot, or of a file that it makes there."""
+    if spot is None:
+        return
     if "O_PATH" in flags:
-        remember(call, process, Opened(trace.tree.path_of(spot), spot.node))
+        remember(call, process, Opened(trace.tree.path_of(spot), spot.node, spot=spot), flags)
         return
     if "O_TMPFILE" in flags:
         open_nameless(trace, call, process, spot, flags)
@@ -111,7 +136,7 @@ def open_spot(trace: Trace, call: Call, process: Process, spot: Spot, flags: Set
         event.asks.append(Ask("make_reg", trace.tree.chain(spot.directory)))
         event.made, event.changed = node, [node]
     trace.add(event)
-    remember(call, process, Opened(path, node, chain, event))
+    remember(call, process, Opened(path, node, chain, event, Spot(spot.directory, spot.name, node)), flags)
 
 
 def opening_commands(kind: str, mode: str, path: str, is_lasting: bool) -> List[Command]:
@@ -131,12 +156,12 @@ def open_nameless(trace: Trace, call: Call, process: Process, spot: Spot, flags:
     path, mode = trace.tree.path_of(spot), mode_of(flags)
     asks = [Ask(right, chain) for right in asked_of(mode)]
     event = trace.add(Event(call.line, [command("open", mode, path, expected=DIRECTORY)], asks, named=[chain]))
-    remember(call, process, Opened(path, Node("reg"), chain, event))
+    remember(call, process, Opened(path, Node("reg"), chain, event), flags)
 
 
-def remember(call: Call, process: Process, opened: Opened) -> None:
+def remember(call: Call, process: Process, opened: Opened, flags: Set[str]) -> None:
     if call.is_done and call.result is not None:
-        process.files[call.result] = opened
+        process.files.put(call.result, opened, "O_CLOEXEC" in flags)
 
 
 def on_ftruncate(trace: Trace, call: Call, process: Process) -> None:
@@ -146,7 +171,7 @@ def on_ftruncate(trace: Trace, call: Call, process: Process) -> None:
         return
     if found.path is None or found.path.startswith("/memfd:"):
         return
-    opened = process.files.get(found.number)
+    opened = process.files.opened.get(found.number)
     if opened is None:
         # One that was open before the program began keeps no layer. One that came over a socket may.
         trace.note(call, f"it isn't known how descriptor {found.number} of {found.path} was opened, which is cut here")
@@ -159,29 +184,43 @@ def on_ftruncate(trace: Trace, call: Call, process: Process) -> None:
 
 
 def on_copy(trace: Trace, call: Call, process: Process) -> None:
-    """Takes a copy of a descriptor: dup, dup2, dup3, and fcntl by F_DUPFD."""
+    """Takes a copy of a descriptor: dup, dup2 and dup3."""
+    copying(call, process, "O_CLOEXEC" in "".join(call.arguments[2:]))
+
+
+def on_fcntl(trace: Trace, call: Call, process: Process) -> None:
+    """Takes a copy of a descriptor by F_DUPFD, and what F_SETFD says of its end."""
+    word, found = call.arguments[1], descriptor_of(call.arguments[0])
+    if word.startswith("F_DUPFD"):
+        copying(call, process, word == "F_DUPFD_CLOEXEC")
+    elif word == "F_SETFD" and call.is_done and found is not None and found.number in process.files.opened:
+        process.files.mark(found.number or 0, "FD_CLOEXEC" in call.arguments[2])
+
+
+def copying(call: Call, process: Process, is_closing: bool) -> None:
     found = descriptor_of(call.arguments[0])
-    is_copy = call.name != "fcntl" or call.arguments[1].startswith("F_DUPFD")
-    if not call.is_done or not is_copy or found is None or found.number is None or call.result is None:
-        return
-    if found.number in process.files:
-        process.files[call.result] = process.files[found.number]
-    else:
-        process.files.pop(call.result, None)
+    if call.is_done and found is not None and found.number is not None and call.result is not None:
+        if found.number != call.result:
+            process.files.put(call.result, process.files.opened.get(found.number), is_closing)
 
 
 def on_close(trace: Trace, call: Call, process: Process) -> None:
     found = descriptor_of(call.arguments[0])
     if found is not None and found.number is not None:
-        process.files.pop(found.number, None)
+        process.files.close(found.number)
 
 
 def on_close_range(trace: Trace, call: Call, process: Process) -> None:
-    if not call.is_done or "CLOEXEC" in call.arguments[2]:
+    if not call.is_done:
         return
+    if "UNSHARE" in call.arguments[2]:
+        process.files = process.files.copied()
     first, last = (int(it, 0) for it in call.arguments[:2])
-    for number in [it for it in process.files if first <= it <= last]:
-        process.files.pop(number)
+    for number in [it for it in process.files.opened if first <= it <= last]:
+        if "CLOEXEC" in call.arguments[2]:
+            process.files.mark(number, True)
+        else:
+            process.files.close(number)
 
 
 HANDLERS: Dict[str, Handler] = {
@@ -190,10 +229,12 @@ HANDLERS: Dict[str, Handler] = {
     "openat": on_openat,
     "openat2": on_openat2,
     "ftruncate": on_ftruncate,
+    "ftruncate64": on_ftruncate,
     "dup": on_copy,
     "dup2": on_copy,
     "dup3": on_copy,
-    "fcntl": on_copy,
+    "fcntl": on_fcntl,
+    "fcntl64": on_fcntl,
     "close": on_close,
     "close_range": on_close_range,
 }

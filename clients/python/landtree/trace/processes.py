@@ -4,11 +4,14 @@ from __future__ import annotations
 
 from typing import Dict, Optional
 
-from .events import Ask, Event, Process, Trace, command, lasting
-from .loaders import USUAL_LOADER, interpreter_of
+from .events import Ask, Event, command, lasting
+from .holders import Place, Process
+from .lives import CLONES, UNFOLLOWED
+from .loaders import USUAL_LOADER, interpreter_of, is_script
 from .log import Call, descriptor_of, string_of
 from .openings import DIRECTORY, Handler
-from .tree import Node
+from .state import Trace
+from .tree import Node, Spot, Unknown
 
 # The kernel follows so many interpreters of interpreters.
 MOST_INTERPRETERS = 5
@@ -18,6 +21,7 @@ UNLIKE = {
     "pivot_root": "changes what paths mean",
     "mount": "changes what paths mean",
     "move_mount": "changes what paths mean",
+    "umount": "changes what paths mean",
     "umount2": "changes what paths mean",
     "open_tree": "opens files by no path that can be followed",
     "open_by_handle_at": "opens a file without its path",
@@ -26,6 +30,7 @@ UNLIKE = {
     "swapon": "opens a file that the log doesn't show as opened",
     "acct": "opens a file that the log doesn't show as opened",
     "uselib": "opens a file that the log doesn't show as opened",
+    "mq_open": "opens a message queue, on which no policy can have a rule: under a profile it is denied",
 }
 NAMESPACES = ("CLONE_NEWNS", "CLONE_NEWUSER", "CLONE_NEWPID")
 
@@ -40,25 +45,45 @@ def on_execveat(trace: Trace, call: Call, process: Process) -> None:
     if path == "":
         found = descriptor_of(call.arguments[0])
         path = found.path if found and not found.is_deleted else None
-    executing(trace, call, process, trace.start_of(process, call.arguments[0]), path)
+    executing(trace, call, process, trace.start_of(call, process, call.arguments[0]), path)
 
 
 def executing(trace: Trace, call: Call, process: Process, start: Optional[Node], path: Optional[str]) -> None:
     if not call.is_done and call.error not in ("ENOEXEC", "ETXTBSY"):
         return  # Other errors come before the layers are asked.
+    program: Optional[Spot] = None
+    is_program = True
     for _ in range(MOST_INTERPRETERS):
-        spot = trace.find(process, start, path) if path else None
+        spot = executed(trace, call, process, start, path)
         if spot is None or spot.node is None:
-            trace.note(call, f"it isn't known which file is executed: {path or call.arguments[0]}")
-            return
+            break
         true_path = trace.tree.path_of(spot)
         chain, shown = lasting(trace.tree.chain(spot.directory, spot.node), true_path)
         asks = [Ask("execute", chain), Ask("read_file", chain)]
         expected = "" if shown == true_path else DIRECTORY
         trace.add(Event(call.line, [command("exec", shown, expected=expected)], asks, named=[chain]))
+        program = spot if is_program else program
+        is_program = is_script(true_path)
         path = interpreter(trace, call, true_path)
         if path is None:
-            return
+            break
+    if call.is_done:
+        process.files = process.files.executed()
+        process.program = program
+
+
+def executed(
+    trace: Trace, call: Call, process: Process, start: Optional[Node], path: Optional[str]
+) -> Optional[Spot]:
+    """Returns the file that is executed, or notes that it isn't known."""
+    why = ""
+    try:
+        spot = trace.find(process, start, path) if path else None
+    except Unknown as reason:
+        spot, why = None, f": {reason}"
+    if spot is None or spot.node is None:
+        trace.note(call, f"it isn't known which file is executed: {path or call.arguments[0]}{why}")
+    return spot
 
 
 def interpreter(trace: Trace, call: Call, path: str) -> Optional[str]:
@@ -71,26 +96,51 @@ def interpreter(trace: Trace, call: Call, path: str) -> Optional[str]:
 
 
 def on_chdir(trace: Trace, call: Call, process: Process) -> None:
-    path = string_of(call.arguments[0])
-    spot = trace.find(process, process.place.node, path) if call.is_done and path else None
-    if spot and spot.node:
-        process.place.node = spot.node
+    if not call.is_done:
+        return
+    path, why = string_of(call.arguments[0]), ""
+    try:
+        spot = trace.find(process, process.place.node, path) if path else None
+    except Unknown as reason:
+        spot, why = None, f": {reason}"
+    if spot is None:
+        trace.note(call, f"it isn't known which directory chdir names: {call.arguments[0]}{why}")
+    process.place.move((spot.node or trace.tree.infer(spot, "dir")) if spot else None, call.line)
 
 
 def on_fchdir(trace: Trace, call: Call, process: Process) -> None:
-    node = trace.start_of(process, call.arguments[0]) if call.is_done else None
-    if node:
-        process.place.node = node
+    if not call.is_done:
+        return
+    node = trace.start_of(call, process, call.arguments[0])
+    if node is None:
+        trace.note(call, f"it isn't known which directory fchdir names: {call.arguments[0]}")
+    process.place.move(node, call.line)
 
 
 def on_clone(trace: Trace, call: Call, process: Process) -> None:
     if call.result is not None and call.result > 0:
-        trace.process(call.result)
-    on_unshare(trace, call, process)
+        birth = trace.lives.birth_of(call.result)
+        if birth is not None and birth.line == call.line:
+            trace.process(call.result, call.line)
+    if call.is_done and has(call, UNFOLLOWED):
+        trace.note(call, f"{call.name} starts a process that strace doesn't follow: nothing that it does is known")
+    note_namespaces(trace, call)
 
 
 def on_unshare(trace: Trace, call: Call, process: Process) -> None:
-    if call.is_done and any(it in argument for it in NAMESPACES for argument in call.arguments):
+    note_namespaces(trace, call)
+    if call.is_done and (has(call, "CLONE_FS") or has(call, "CLONE_NEWNS")):
+        process.place = Place(process.place.node, process.place.since)
+    if call.is_done and has(call, "CLONE_FILES"):
+        process.files = process.files.copied()
+
+
+def has(call: Call, flag: str) -> bool:
+    return any(flag in it for it in call.arguments)
+
+
+def note_namespaces(trace: Trace, call: Call) -> None:
+    if call.is_done and any(has(call, it) for it in NAMESPACES):
         trace.note(call, f"{call.name} may change what paths mean")
 
 
@@ -99,7 +149,6 @@ def on_unlike(trace: Trace, call: Call, process: Process) -> None:
         trace.note(call, f"{call.name} {UNLIKE[call.name]}")
 
 
-CLONES = ("clone", "clone3", "fork", "vfork")
 HANDLERS: Dict[str, Handler] = {
     "execve": on_execve,
     "execveat": on_execveat,

@@ -6,9 +6,10 @@ import os
 from typing import Dict
 
 from . import links, namings, openings, processes
-from .events import Trace
 from .inventory import Inventory
-from .log import calls
+from .lives import Lives
+from .log import End, Log, entries
+from .state import Trace
 
 HANDLERS: Dict[str, openings.Handler] = {
     **openings.HANDLERS,
@@ -25,17 +26,16 @@ def read(log: "os.PathLike[str] | str", inventory: Inventory, directory: str) ->
 
     A log that was cut, or that has a line which isn't strace's, is a `Fault`.
     """
-    trace = Trace(inventory, directory)
-    # A child's calls may come before the end of the call that has made it.
-    for call in calls(log):
-        if call.name in processes.CLONES and call.result is not None and call.result > 0:
-            trace.parents[call.result] = (call.process, " ".join(call.arguments))
-    for call in calls(log):
-        handler = HANDLERS.get(call.name)
+    trace = Trace(inventory, directory, Lives(log))
+    for entry in entries(Log(os.fspath(log))):
+        if isinstance(entry, End):
+            trace.end(entry)
+            continue
+        handler = HANDLERS.get(entry.name)
         if handler is None:
             continue  # A call that somebody has logged too.
         try:
-            handler(trace, call, trace.process(call.process))
+            handler(trace, entry, trace.process(entry.process, entry.began))
         except IndexError:
-            trace.note(call, f"{call.name} has fewer arguments than it takes: {', '.join(call.arguments)}")
+            trace.note(entry, f"{entry.name} has fewer arguments than it takes: {', '.join(entry.arguments)}")
     return trace

@@ -10,10 +10,12 @@ from typing import Callable, Dict, List, Optional, Tuple
 from .inventory import Entry, Inventory
 
 MOST_LINKS = 40
-# These are there now, but not when another process runs.
-PASSING = re.compile(r"/proc/\d+(/.*)?", re.S)
-DESCRIPTORS = re.compile(r"/proc/(\d+)(/task/\d+)?/fd")
-OWN_PLACE = re.compile(r"/proc/\d+(/task/\d+)?")
+PROC = "/proc"
+DESCRIPTORS = re.compile(r"/proc/(\d+)(?:/task/(\d+))?/fd")
+OWN_PLACE = re.compile(r"/proc/(\d+)(?:/task/(\d+))?")
+PLACES = ("cwd", "exe", "root")
+# Directories of a process in /proc; everything else there is taken for a file.
+DIRECTORIES = ("attr", "fd", "fdinfo", "map_files", "net", "ns", "task")
 
 
 @dataclass(eq=False)
@@ -21,7 +23,8 @@ class Node:
     """A file. `start` is its path when the program began, None if it came since.
 
     `names` has what is known of a directory: None stands for a name that isn't there. `is_lasting` says whether a rule
-    may be on it.
+    may be on it: none may be on what is in a process's own directory of /proc. `holder` is the process of a link there
+    that leads to what this process has. `is_changed` says that a link may have led elsewhere when the program ran.
     """
 
     kind: str
@@ -31,6 +34,8 @@ class Node:
     names: Dict[str, Optional["Node"]] = field(default_factory=dict)
     parent: Optional["Node"] = None
     name: str = ""
+    holder: Optional[int] = None
+    is_changed: bool = False
 
 
 Chain = Tuple[Node, ...]
@@ -45,83 +50,106 @@ class Spot:
     node: Optional[Node]
 
 
-class Loop(Exception):
-    """Raised if a path leads through too many links."""
+class Unknown(Exception):
+    """Raised if it isn't known where a path leads. Its text says why."""
 
 
-class Magic(Exception):
-    """Raised if a path leads through a link of /proc to what a process has open; `target` is that path, if known."""
-
-    def __init__(self, target: Optional[str]) -> None:
-        super().__init__(target)
-        self.target = target
-
-
-# Returns the path that a process, by its number, has open under a number, or its working directory under None.
-Opened = Callable[[int, Optional[int]], Optional[str]]
+# Returns what a process, by its number, has as its `cwd`, `exe` or `root`, or open under a number; None if that isn't
+# known.
+Held = Callable[[int, str], Optional[Spot]]
 
 
 def names_of(path: str) -> List[str]:
     return [it for it in path.split("/") if it not in ("", ".")]
 
 
+def passing_node(where: str, name: str) -> Node:
+    """Returns a node of a process's own directory in /proc, which another process doesn't find there."""
+    found = DESCRIPTORS.fullmatch(where) if name.isdigit() else OWN_PLACE.fullmatch(where) if name in PLACES else None
+    if found:
+        return Node("sym", f"{where}/{name}", is_lasting=False, holder=int(found[2] or found[1]))
+    is_directory = where == PROC or name in DIRECTORIES or where.endswith("/task")
+    return Node("dir" if is_directory else "reg", f"{where}/{name}", is_lasting=False)
+
+
 class Tree:
     """The tree. `shared` has each pair of paths that were two names of one file when the program began."""
 
-    def __init__(self, inventory: Inventory, opened: Opened) -> None:
+    def __init__(self, inventory: Inventory, held: Held) -> None:
         self.inventory = inventory
-        self.opened = opened
+        self.held = held
         self.root = Node("dir", "/")
         self.shared: List[Tuple[str, str]] = []
         self._first_paths: Dict[Tuple[int, int], str] = {}
 
-    def find(self, start: Node, path: str, process: int, follow: bool = True) -> Optional[Spot]:
+    def find(self, start: Node, path: str, own: str = "", follow: bool = True) -> Optional[Spot]:
         """Returns where a path leads that a process names, or None if a directory on the way isn't there.
 
-        Links are followed, the last one if `follow` says so or a slash comes after it.
+        Links are followed, the last one if `follow` says so or a slash comes after it. `own` is the process's place in
+        /proc, if one names the path. If it isn't known where a link leads, this raises `Unknown`.
         """
         here = self.root if path.startswith("/") else start
-        ahead = names_of(path)
+        ahead = names_of(path)[::-1]
         is_directory = path.endswith(("/", "/."))
         links = 0
         while ahead:
-            name = ahead.pop(0)
+            name = ahead.pop()
             if here.kind != "dir":
                 return None
             if name == "..":
                 here = here.parent or here
                 continue
-            node = self.look(here, name, process)
+            node = self.look(here, name, own)
             if node and node.kind == "sym" and (ahead or follow or is_directory):
                 links += 1
                 if links > MOST_LINKS:
-                    raise Loop
+                    raise Unknown(f"it leads through over {MOST_LINKS} links")
+                if node.is_changed:
+                    raise Unknown(f"the link {self.path(here, name)} has changed since the program began")
+                if node.holder is not None:
+                    spot = self._held_by(node)
+                    if not ahead:
+                        return spot
+                    here = spot.node or here
+                    continue
                 target = node.link or ""
                 is_directory = is_directory or (not ahead and target.endswith(("/", "/.")))
                 here = self.root if target.startswith("/") else here
-                ahead = names_of(target) + ahead
+                ahead += names_of(target)[::-1]
                 continue
             if not ahead:
                 return Spot(here, name, node)
             if node is None:
                 return None
             here = node
-        return Spot(here.parent or here, here.name, here)
+        return self.spot_of(here)
 
-    def look(self, directory: Node, name: str, process: int) -> Optional[Node]:
-        """Returns what has this name in a directory, as a process sees it."""
-        where = self.path(directory)
-        if where == "/proc" and name in ("self", "thread-self"):
-            name = str(process)
-        if PASSING.fullmatch(f"{where}/{name}"):
-            return self._look_at_process(directory, where, name)
+    def _held_by(self, link: Node) -> Spot:
+        """Returns what a link of /proc leads to, and not to a name."""
+        spot = self.held(link.holder or 0, posixpath.basename(link.start or ""))
+        if spot is None or spot.node is None:
+            raise Unknown(f"it isn't known what {link.start} leads to")
+        return spot
+
+    def spot_of(self, directory: Node) -> Spot:
+        """Returns where a directory is."""
+        return Spot(directory.parent or directory, directory.name, directory)
+
+    def look(self, directory: Node, name: str, own: str = "") -> Optional[Node]:
+        """Returns what has this name in a directory, as a process sees it whose place in /proc is its `own`."""
+        if directory.start == PROC and name in ("self", "thread-self"):
+            link = own if name == "thread-self" else own.split("/")[0]
+            return Node("sym", f"{PROC}/{name}", link or "none", is_lasting=False)
         if name in directory.names:
             return directory.names[name]
         if directory.start is None:
             return None
         path = f"{directory.start.rstrip('/')}/{name}"
-        entry = self.inventory.entry(path)
-        node = self._first_node(path, entry) if entry else None
+        if not directory.is_lasting or (directory.start == PROC and name.isdigit()):
+            node: Optional[Node] = passing_node(directory.start, name)
+        else:
+            entry = self.inventory.entry(path)
+            node = self._first_node(path, entry) if entry else None
         self.put(directory, name, node)
         return node
 
@@ -131,22 +159,7 @@ class Tree:
             other = self._first_paths.setdefault(entry.key, path)
             if other != path:
                 self.shared.append((other, path))
-        return Node(entry.kind, path, entry.link)
-
-    def _look_at_process(self, directory: Node, where: str, name: str) -> Node:
-        """Returns a node of a process's own directory in /proc, which has none that lasts."""
-        descriptors = DESCRIPTORS.fullmatch(where)
-        if descriptors and name.isdigit():
-            raise Magic(self.opened(int(descriptors[1]), int(name)))
-        if OWN_PLACE.fullmatch(where) and name in ("exe", "cwd", "root"):
-            raise Magic(self.opened(int(where.split("/")[2]), None) if name == "cwd" else None)
-        node = directory.names.get(name)
-        if node is None:
-            has_names = where == "/proc" or name in ("attr", "fd", "fdinfo", "map_files", "net", "ns", "task")
-            kind = "dir" if has_names or where.endswith("/task") else "reg"
-            node = Node(kind, f"{where}/{name}", is_lasting=False)
-            self.put(directory, name, node)
-        return node
+        return Node(entry.kind, path, entry.link, is_changed=entry.is_changed)
 
     def put(self, directory: Node, name: str, node: Optional[Node]) -> None:
         """Gives a node a name, or takes the name away."""
@@ -166,16 +179,20 @@ class Tree:
         for node in directory.names.values():
             if node is not None:
                 return node
-        name = self.inventory.first_in(directory.start) if directory.start else None
-        return None if name is None or name in directory.names else self.look(directory, name, 0)
+        return self._unseen_in(directory)
 
     def first_old(self, directory: Node) -> Optional[Node]:
         """Returns something that lay in a directory when the program began, and lies there yet, if it is known."""
         for node in directory.names.values():
             if node is not None and node.start and posixpath.dirname(node.start) == directory.start:
                 return node
-        name = self.inventory.first_in(directory.start) if directory.start else None
-        return None if name is None or name in directory.names else self.look(directory, name, 0)
+        return self._unseen_in(directory)
+
+    def _unseen_in(self, directory: Node) -> Optional[Node]:
+        """Returns something that lay in a directory when the program began, and that no call has named."""
+        names = self.inventory.names_in(directory.start) if directory.start else []
+        name = next((it for it in names if it not in directory.names), None)
+        return None if name is None else self.look(directory, name)
 
     def chain(self, directory: Node, node: Optional[Node] = None) -> Chain:
         """Returns the nodes from the root to a directory, and further to a node in it."""
