@@ -148,7 +148,7 @@ class Recording(Case):
         ended = self.record("--changes", "none", "--", "touch", "ran")
         self.assertEqual((ended.returncode, ended.stderr), (125, "landtree: none: no directory\n"))
         ended = self.record("--to", "none/log", "--", "touch", "ran")
-        said = "landtree: none/log.before.part: No such file or directory\n"
+        said = "landtree: none/log: No such file or directory\n"
         self.assertEqual((ended.returncode, ended.stderr), (125, said))
         self.assertEqual(list(self.room.iterdir()), [])
 

@@ -18,8 +18,9 @@ from ..errors import Fault
 from ..values import KINDS, Rights
 from .files import write_all
 from .inventory import Entry, Inventory, inventory_of
+from .log_file import MODE, LogFile
 from .reader import TRACED
-from .runs import run_traced
+from .runs import Run, Starter, run_traced
 
 FORM = 1
 # From 5.3 on strace has --seccomp-bpf, without which a program that opens many files is ten times slower.
@@ -52,13 +53,7 @@ class Recording:
         entries = {path: [it.kind, it.link, it.key] for path, it in self.inventory.entries.items()}
         data = {"form": FORM, "words": self.words, "directory": self.directory, "status": self.status}
         data.update(began=self.inventory.began, directories=self.inventory.directories, entries=entries)
-        write_all([(self.before, json.dumps(data) + "\n")], replace=True)
-
-    def discard_empty(self) -> None:
-        """Removes the files of a recording without a line, so that they aren't in the way of the next one."""
-        if self.log.stat().st_size == 0:
-            self.log.unlink()
-            self.before.unlink()
+        write_all([(self.before, json.dumps(data) + "\n")], mode=MODE)
 
     @classmethod
     def load(cls, log: "os.PathLike[str] | str") -> "Recording":
@@ -128,9 +123,11 @@ def record(
     it does what it does without. A program that links its input into a directory where it may write needs write_file
     on that input too.
 
-    `log` is a new file, and a file of its name with `.before` is made beside it. `changes` are the directories whose
-    files the program may change: the working directory is always one of them, and so is that of TMPDIR. If nothing can
-    be recorded, this raises `Fault`, the program isn't run, and no log is left.
+    `log` is a new file, and a file of its name with `.before` is made beside it. Both are there only when the program
+    has ended: until then the log has no name, so the program can't replace it. If something else has one of the names
+    then, that is a `Fault`. `changes` are the directories whose files the program may change: the working directory is
+    always one of them, and so is that of TMPDIR. If nothing can be recorded, this raises `Fault`, the program isn't
+    run, and no log is left.
 
     SIGTERM and SIGHUP go to the program and to all whom it has started. The recording ends when they have ended.
     """
@@ -143,23 +140,35 @@ def record(
     directories = need_recordable(words, [directory, *changes], environment)
     layer = layer_of(never)
     inventory = inventory_of(directories, now())
-    recording = Recording(place, list(words), directory, inventory)
+    inventory.began = now()
+    run = run_logged(place, words, traced, environment=environment, layer=layer)
+    ended = Recording(place, list(words), directory, inventory, run.status, run.signal)
     try:
-        recording.save()
-        place.touch(exist_ok=False)
-    except OSError as error:
-        raise Fault(f"{place}: {error.strerror}") from None
-    recording.inventory.began = now()
-    try:
-        run = run_traced([*strace_words(place, traced), *words], environment=environment, layer=layer)
-        if not place.stat().st_size:
-            raise Fault(f"{place}: strace has logged nothing, so the program wasn't run")
-    except BaseException:
-        recording.discard_empty()
+        ended.save()
+    except Fault:
+        place.unlink()
         raise
-    ended = Recording(place, recording.words, directory, inventory, run.status, run.signal)
-    ended.save()
     return ended
+
+
+def run_logged(
+    place: Path,
+    words: Sequence[str],
+    calls: Sequence[str] = TRACED,
+    *,
+    directory: Optional[str] = None,
+    environment: Optional[Mapping[str, str]] = None,
+    layer: Optional[int] = None,
+) -> Run:
+    """Runs a program under strace to its end, and keeps the log of these calls in a new file.
+
+    The file gets its name when the program has ended. `layer` is a ruleset whose layer the program is under.
+    """
+    with LogFile(place) as log, Starter(layer).ending() as starter:
+        how = strace_words(log.path_of(starter.thread), calls)
+        run = run_traced([*how, *words], directory=directory, environment=environment, starter=starter)
+        log.keep()
+    return run
 
 
 def need_recordable(

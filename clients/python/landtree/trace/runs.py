@@ -3,12 +3,12 @@
 from __future__ import annotations
 
 import contextlib
-import functools
 import os
 import signal
 import subprocess
 import threading
 import time
+from concurrent.futures import ThreadPoolExecutor
 from pathlib import Path
 from types import FrameType
 from typing import Any, Callable, Dict, Iterator, List, Mapping, Optional, Sequence, Set
@@ -44,28 +44,49 @@ class Run:
         self.status = strace.wait()
 
 
+class Starter:
+    """A thread that starts programs, and is under the layer of a ruleset if there is one: so are the programs then.
+
+    A program under a layer can look into this thread, as its layers are the same, but not into others of this process.
+    """
+
+    def __init__(self, layer: Optional[int] = None) -> None:
+        self._pool = ThreadPoolExecutor(1)
+        self.thread = self._pool.submit(threading.get_native_id).result()
+        if layer is not None:
+            try:
+                self._pool.submit(landlock.restrict_self, layer).result()
+            except OSError:
+                self._pool.shutdown()
+                raise Fault("the kernel enforces no layer on the program: a process has 16 at most") from None
+
+    def start(self, words: Sequence[str], how: Mapping[str, Any]) -> "subprocess.Popen[bytes]":
+        return self._pool.submit(lambda: subprocess.Popen(words, **how)).result()
+
+    @contextlib.contextmanager
+    def ending(self) -> "Iterator[Starter]":
+        """Ends the thread after a block."""
+        with self._pool:
+            yield self
+
+
 def run_traced(
     words: Sequence[str],
     *,
     directory: Optional[str] = None,
     environment: Optional[Mapping[str, str]] = None,
-    layer: Optional[int] = None,
+    starter: Optional[Starter] = None,
 ) -> Run:
-    """Runs a strace and its program to the end, under the layer of a ruleset if there is one.
+    """Runs a strace and its program to the end.
 
     An interrupt from the terminal is left to the program. A signal that asks this process to end goes to the program
     and to all whom it has started.
     """
     run = Run()
-    begin = None if layer is None else functools.partial(landlock.restrict_self, layer)
     # The program has this process's descriptors, as it has under `exec`.
-    how: Dict[str, Any] = {"cwd": directory, "env": environment, "preexec_fn": begin, "close_fds": False}
+    how: Dict[str, Any] = {"cwd": directory, "env": environment, "close_fds": False}
     with handled({signal.SIGINT: lambda *_: None, **{it: run.handle for it in ENDING}}):
-        try:
-            strace = subprocess.Popen(words, **how)
-        except subprocess.SubprocessError:
-            raise Fault("the kernel enforces no layer on the program: a process has 16 at most") from None
-        with strace:
+        with starter.start(words, how) if starter else subprocess.Popen(words, **how) as strace:
             run.wait_for(strace)
     return run
 
@@ -74,16 +95,17 @@ def pass_on(strace: int, number: int) -> None:
     """Sends a signal to all processes that a strace follows, and returns when strace has ended.
 
     Once all of these have ended, those that are left get it: they were started at that moment. What a program starts
-    while it handles the signal isn't disturbed.
+    while it handles the signal isn't disturbed. Lower numbers get it first, so that a shell ends before its child does,
+    and doesn't go on with its next command.
     """
     sent: Set[int] = set()
     while not has_ended(strace):
-        followed = set(followed_by(strace))
-        if not followed & sent:
+        followed = followed_by(strace)
+        if sent.isdisjoint(followed):
             for it in followed:
                 with contextlib.suppress(OSError):  # It has ended meanwhile.
                     os.kill(it, number)
-            sent |= followed
+            sent.update(followed)
         time.sleep(PAUSE)
 
 
@@ -103,7 +125,7 @@ def followed_by(strace: int) -> List[int]:
     own, traced = read_of(strace, "cmdline"), f"\nTracerPid:\t{strace}\n"
     if not own:
         return []  # It isn't executed yet, or has ended.
-    processes = [int(it) for it in os.listdir("/proc") if it.isdigit() and traced in read_of(it, "status")]
+    processes = sorted(int(it) for it in os.listdir("/proc") if it.isdigit() and traced in read_of(it, "status"))
     return [it for it in processes if read_of(it, "cmdline") not in ("", own)]
 
 
