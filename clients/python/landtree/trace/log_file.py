@@ -54,7 +54,7 @@ class LogFile:
             raise Fault(f"{self.place}: something has replaced or changed the log, so don't use it")
 
     def need_whole(self) -> None:
-        """Raises `Fault` if strace has written nothing, or if it isn't all there: what is cut off is zero bytes then."""
+        """Raises `Fault` if strace has written nothing, or if part of it is missing: zero bytes are there then."""
         last = b""
         self._file.seek(0)
         while chunk := self._file.read(CHUNK):

@@ -19,6 +19,8 @@ HANDLERS: Dict[str, openings.Handler] = {
 }
 # The calls that strace logs. Others ask a layer for nothing: stat, access, readlink, chmod, utimensat, mmap, connect ..
 TRACED = tuple(HANDLERS)
+# Only 32-bit code makes these calls, but a 64-bit program may run such code.
+NARROW = ("truncate64", "ftruncate64", "fcntl64", "umount")
 
 
 def read(log: "os.PathLike[str] | str", inventory: Inventory, directory: str) -> Trace:

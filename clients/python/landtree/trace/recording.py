@@ -19,7 +19,7 @@ from ..values import KINDS, Rights
 from .files import write_all
 from .inventory import Entry, Inventory, inventory_of
 from .log_file import MODE, LogFile
-from .reader import TRACED
+from .reader import NARROW, TRACED
 from .runs import Run, Starter, run_traced
 
 FORM = 1
@@ -105,7 +105,9 @@ def need_strace(strace: str = "strace") -> None:
 def strace_words(log: "os.PathLike[str] | str", calls: Sequence[str] = TRACED) -> List[str]:
     """Returns the words that log these calls of a program and of all whom it starts."""
     how = ["strace", "-f", "-y", "--seccomp-bpf", "-q", "-s", "64"]
-    return [*how, "-e", f"trace={','.join(calls)}", "-o", os.fspath(log), "--"]
+    # A question mark: a strace that doesn't know the name takes it too.
+    names = [f"?{it}" if it in NARROW else it for it in calls]
+    return [*how, "-e", f"trace={','.join(names)}", "-o", os.fspath(log), "--"]
 
 
 def record(
