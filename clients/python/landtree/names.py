@@ -12,6 +12,7 @@ import re
 from .values import NAME_BYTES, PATH_BYTES, PATH_NAMES
 
 ESCAPE = re.compile(rb"%([0-9A-F]{2})")
+OTHER = re.compile(rb"[^!-$&-~]")
 
 
 def is_plain(byte: int) -> bool:
@@ -21,7 +22,7 @@ def is_plain(byte: int) -> bool:
 
 def encoded(path: str) -> str:
     """Returns a real path as a policy spells it. The path is a text as `os.fsdecode` gives it."""
-    return "".join(chr(byte) if is_plain(byte) else f"%{byte:02X}" for byte in os.fsencode(path))
+    return OTHER.sub(lambda byte: b"%%%02X" % byte[0][0], os.fsencode(path)).decode("ascii")
 
 
 def decoded(path: str) -> str:

@@ -41,6 +41,11 @@ class Slim(Tracing):
         lines = [f'open("new{it}", O_WRONLY|O_CREAT, 0666) = 3</w/new{it}>' for it in range(9)]
         self.assertEqual(self.slim(*lines), ["open wc /w/new0 = fd 0"])
 
+    def test_what_would_be_cut_the_next_time_is_kept_once(self):
+        lines = [f'open("d/new{it}", O_WRONLY|O_CREAT, 0666) = 3</w/d/new{it}>' for it in range(3)]
+        lines += [f'open("d/log{it}", O_WRONLY|O_CREAT|O_TRUNC, 0666) = 3</w/d/log{it}>' for it in range(3)]
+        self.assertEqual(self.slim(*lines), ["open wc /w/d/new0 = fd 0", "open wtc /w/d/log0 = fd 0"])
+
     def test_a_file_that_was_there_is_kept_below_what_is_made(self):
         # The rule on /w grants write_file for what is made there. That it reaches f too is known by its opening alone.
         lines = ['open("new", O_WRONLY|O_CREAT, 0666) = 3</w/new>', *['open("f", O_WRONLY) = 3</w/f>'] * 2]
@@ -81,8 +86,6 @@ class Texts(Tracing):
         self.wants_fault(text, need_room, "log", [Node(f"/d{it // 1000}/{it}", "reg") for it in range(4096)], [])
         text = "log: the checks need 1,025 names in /, and 1,024 may be there"
         self.wants_fault(text, need_room, "log", [Node(f"/{it}", "reg") for it in range(1025)], [])
-        text = f"log:3: no policy can have {'/a' * 65}: its path has over 64 names"
-        self.wants_fault(text, need_room, "log", [], [Event(3, [command("list", "/a" * 65)], [])])
 
 
 class Files(Case):

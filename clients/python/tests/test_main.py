@@ -100,7 +100,7 @@ class Recording(Case):
         self.assertEqual((ended.returncode, ended.stdout, ended.stderr), (3, "hello\n", said))
         self.assertEqual(self.convert().returncode, 0)
         checks = (self.room / "run.check").read_text().splitlines()
-        self.assertIn(f"open wc {self.room}/f = fd 0", checks)
+        self.assertIn(f"open wtc {self.room}/f = fd 0", checks)
         checked = Commands(PROGRAM).check([self.room / "run.check"], self.room / "run.nodes.toml")
         self.assertEqual(checked.failed, 0)
 
@@ -118,7 +118,7 @@ class Recording(Case):
         self.convert()
         checks = (self.room / "run.check").read_text().splitlines()
         self.assertIn(f"open wt {self.room}/f = fd 0", checks)
-        self.assertIn(f"open wc {self.room}/new = fd 0", checks)
+        self.assertIn(f"open wtc {self.room}/new = fd 0", checks)
 
     def test_a_directory_beside(self):
         other = self.put("other/f").parent
@@ -127,7 +127,7 @@ class Recording(Case):
         self.assertEqual(self.run_command(*words, cwd=self.room / "here").returncode, 0)
         self.run_command("convert", "run.log", cwd=self.room / "here")
         checks = (self.room / "here/run.check").read_text().splitlines()
-        self.assertEqual([it for it in checks if "other" in it], [f"unlink {other}/f", f"open wc {other}/f = fd 0"])
+        self.assertEqual([it for it in checks if "other" in it], [f"unlink {other}/f", f"open wtc {other}/f = fd 0"])
 
     def test_a_program_that_is_not_there(self):
         for name in ("no-such-program", "./none", "/etc/passwd", "/etc"):

@@ -45,9 +45,9 @@ class Calls(Tracing):
         self.assertEqual(self.commands(*lines)[2:], ["truncate /w/f 0", "truncate /w/g 0"])
 
     def test_what_no_policy_can_say(self):
+        queue = "opens a message queue, on which no policy can have a rule: under a profile it is denied"
         for call, text in {
-            'mq_open("q", O_RDWR|O_CREAT, 0600, NULL) = 3': "mq_open opens a message queue, on which no policy can have "
-            "a rule: under a profile it is denied",
+            'mq_open("q", O_RDWR|O_CREAT, 0600, NULL) = 3': f"mq_open {queue}",
             'umount("/w") = 0': "umount changes what paths mean",
         }.items():
             self.assertEqual((self.commands(call), self.notes(call)), ([], [(1, text)]))

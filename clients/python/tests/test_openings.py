@@ -20,18 +20,25 @@ class Openings(Tracing):
         self.assertEqual(self.opened("f", "O_WRONLY|O_CREAT|O_TRUNC, 0666"), ["open wt /w/f = fd 0", "close 0"])
 
     def test_making(self):
-        self.assertEqual(self.opened("new", "O_WRONLY|O_CREAT|O_TRUNC, 0666"), ["open wc /w/new = fd 0", "close 0"])
+        self.assertEqual(self.opened("new", "O_WRONLY|O_CREAT|O_TRUNC, 0666"), ["open wtc /w/new = fd 0", "close 0"])
         self.assertEqual(self.opened("new", "O_RDWR|O_CREAT|O_EXCL, 0600"), ["open rwcx /w/new = fd 0", "close 0"])
         line = f'openat({CWD}, "d/new", O_WRONLY|O_CREAT, 0666) = 3</w/d/new>'
         self.assertEqual(self.asks(line), [("write_file", "/w/d"), ("make_reg", "/w/d")])
 
     def test_made_once(self):
         line = f'openat({CWD}, "new", O_WRONLY|O_CREAT|O_TRUNC, 0666) = 3</w/new>'
-        made, again = "open wc /w/new = fd 0", "open wt /w/new = fd 0"
+        made, again = "open wtc /w/new = fd 0", "open wt /w/new = fd 0"
         self.assertEqual(self.commands(line, line), [made, "close 0", again, "close 0"])
 
+    def test_what_is_made_is_not_cut(self):
+        # Only the next run has something to cut, so this one doesn't ask for it.
+        line = f'openat({CWD}, "new", O_WRONLY|O_CREAT|O_TRUNC, 0666) = 3</w/new>'
+        self.assertEqual(self.asks(line), [("write_file", "/w"), ("make_reg", "/w")])
+        then = "ftruncate(3</w/new>, 9) = 0"
+        self.assertEqual(self.asks(line, then), [("write_file", "/w"), ("make_reg", "/w"), ("truncate", "/w")])
+
     def test_creat_and_open(self):
-        self.assertEqual(self.commands('creat("/w/new", 0666) = 3</w/new>')[0], "open wc /w/new = fd 0")
+        self.assertEqual(self.commands('creat("/w/new", 0666) = 3</w/new>')[0], "open wtc /w/new = fd 0")
         self.assertEqual(self.commands('open("d/x", O_RDONLY) = 3</w/d/x>')[0], "open r /w/d/x = fd 0")
 
     def test_openat2(self):

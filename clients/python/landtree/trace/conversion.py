@@ -8,10 +8,12 @@ from pathlib import Path
 from typing import Dict, List, Optional, Tuple
 
 from ..errors import Fault
+from ..values import DIRECTORY_NAMES
 from .events import Note
 from .files import write_all
 from .reader import read
 from .recording import Recording
+from .rehearsal import rehearsed
 from .slim import slimmed
 from .texts import beside_made, checks_text, first_nodes, need_room, nodes_text
 
@@ -58,13 +60,16 @@ def convert(log: "os.PathLike[str] | str", *, whole: bool = False) -> Converted:
         trace = read(log, recording.inventory, recording.directory)
     except OSError as error:
         raise Fault(f"{os.fspath(log)}: {error.strerror}") from None
-    events = trace.events if whole else slimmed(trace.events)
+    notes = trace.notes
+    events = rehearsed(trace.events, notes)
+    events = rehearsed(events if whole else slimmed(events), notes, DIRECTORY_NAMES)
     nodes = first_nodes(events)
     nodes = sorted([*nodes, *beside_made(events, nodes, trace.tree)], key=lambda it: it.path.split("/"))
     need_room(os.fspath(log), nodes, events)
     texts = (os.fspath(log), nodes_text(nodes), checks_text(events))
     commands = sum(len(it.commands) for it in events)
-    return Converted(*texts, trace.notes, trace.tree.shared, len(trace.events), commands)
+    notes.sort(key=lambda it: it.line)
+    return Converted(*texts, notes, trace.tree.shared, len(trace.events), commands)
 
 
 def names_beside(log: "os.PathLike[str] | str", nodes: Optional[str], checks: Optional[str]) -> Tuple[Path, Path]:

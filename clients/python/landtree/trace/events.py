@@ -3,7 +3,7 @@
 from __future__ import annotations
 
 from dataclasses import dataclass, field
-from typing import List, Optional, Sequence, Tuple
+from typing import Dict, Iterable, Iterator, List, Optional, Sequence, Tuple
 
 from ..names import encoded
 from .tree import Chain, Node
@@ -58,7 +58,7 @@ class Event:
     """What one call asks for.
 
     `named` has the chains of all that the commands name, `made` the node that came by the call, and `changed` the nodes
-    whose names it has changed.
+    whose names it has changed. `again` is what it would ask for beside that if what it makes was there.
     """
 
     line: int
@@ -68,6 +68,14 @@ class Event:
     named: List[Chain] = field(default_factory=list)
     made: Optional[Node] = None
     changed: List[Node] = field(default_factory=list)
+    again: List[Ask] = field(default_factory=list)
+
+    @property
+    def chains(self) -> Iterator[Chain]:
+        """The chains of all that it names and asks for."""
+        yield from self.named
+        yield from (it.chain for it in self.asks)
+        yield from (chain for it in self.moves for chain in (it.own, it.into))
 
 
 @dataclass(frozen=True)
@@ -76,6 +84,12 @@ class Note:
 
     line: int
     text: str
+
+
+def starts_of(events: Iterable[Event]) -> Dict[str, str]:
+    """Returns the paths of all that the events name and that was there when the program began, with their kinds."""
+    nodes = dict.fromkeys(node for event in events for chain in event.chains for node in chain)
+    return {it.start: it.kind for it in nodes if it.start is not None and it.start != "/" and it.is_lasting}
 
 
 def lasting(chain: Sequence[Node], path: str) -> Tuple[Chain, str]:

@@ -24,6 +24,8 @@ DESCRIPTOR = re.compile(r"(AT_FDCWD|-?\d+)(?:<(.*?)>)?(\(deleted\))?", re.S)
 ESCAPE = re.compile(rb"\\(x[0-9a-f]{2}|[0-7]{1,3}|.)", re.S)
 LETTERS = {b"n": b"\n", b"t": b"\t", b"r": b"\r", b"v": b"\v", b"f": b"\f", b"a": b"\a", b"b": b"\b", b"e": b"\x1b"}
 PAIRS = {"(": ")", "[": "]", "{": "}"}
+SIGN = re.compile(r'["<()\[\]{},]')
+BEFORE_PATH = re.compile(r"(\d|AT_FDCWD)\Z")
 
 
 @dataclass(frozen=True)
@@ -71,6 +73,8 @@ class Descriptor:
 
 def unescaped(text: str) -> str:
     """Returns what a string of C stands for, as `os.fsdecode` gives it."""
+    if "\\" not in text:
+        return text
 
     def undone(match: "re.Match[bytes]") -> bytes:
         word = match[1]
@@ -103,16 +107,16 @@ def arguments_of(text: str) -> Optional[Tuple[List[str], int]]:
     arguments: List[str] = []
     awaited: List[str] = []
     start = place = 0
-    while place < len(text):
-        sign = text[place]
+    while found := SIGN.search(text, place):
+        place, sign = found.end(), found[0]
         if sign == '"':
-            string = STRING.match(text, place)
+            string = STRING.match(text, found.start())
             if not string:
                 return None
-            place = string.end() - 1
-        elif sign == "<" and re.search(r"(\d|AT_FDCWD)$", text[start:place]):
-            place = text.find(">", place)  # In a path these signs are escaped.
-            if place < 0:
+            place = string.end()
+        elif sign == "<" and BEFORE_PATH.search(text, max(start, place - 9), place - 1):
+            place = text.find(">", place) + 1  # In a path these signs are escaped.
+            if not place:
                 return None
         elif sign in PAIRS:
             awaited.append(PAIRS[sign])
@@ -121,12 +125,11 @@ def arguments_of(text: str) -> Optional[Tuple[List[str], int]]:
         elif sign in ")]}" and (awaited or sign != ")"):
             return None
         elif sign == ")":
-            last = text[start:place].strip()
-            return arguments + [last] if last or arguments else [], place
+            last = text[start : place - 1].strip()
+            return arguments + [last] if last or arguments else [], place - 1
         elif sign == "," and not awaited:
-            arguments.append(text[start:place].strip())
-            start = place + 1
-        place += 1
+            arguments.append(text[start : place - 1].strip())
+            start = place
     return None
 
 
@@ -174,13 +177,13 @@ class Log:
         if rest.startswith("---"):
             return None
         began = line
-        resumed = RESUMED.fullmatch(rest)
+        resumed = RESUMED.fullmatch(rest) if rest.startswith("<") else None
         if resumed:
             if process not in self.under_way:
                 raise self.fault(line, text)
             began, start = self.under_way.pop(process)
             rest = start + resumed[2]
-        unfinished = UNFINISHED.fullmatch(rest)
+        unfinished = UNFINISHED.fullmatch(rest) if "<unfinished" in rest else None
         if unfinished:
             self.under_way[process] = (began, unfinished[1])
             return None

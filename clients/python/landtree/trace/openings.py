@@ -125,15 +125,16 @@ def open_spot(trace: Trace, call: Call, process: Process, spot: Optional[Spot], 
     path = trace.tree.path_of(Spot(spot.directory, spot.name, node))
     chain, shown = lasting(trace.tree.chain(spot.directory, node), path)
     mode = mode_of(flags)
-    if is_made:
-        mode += "cx" if "O_EXCL" in flags else "c"
-    elif "O_TRUNC" in flags and node.kind == "reg":
-        mode += "t"
-    rights = ["read_dir"] if node.kind == "dir" else asked_of(mode)
+    is_cut = "O_TRUNC" in flags and node.kind == "reg"
+    mode += ("t" if is_cut else "") + ("cx" if is_made and "O_EXCL" in flags else "c" if is_made else "")
+    # A file that is made has nothing to cut, so that isn't asked for. The next time it will be.
+    rights = ["read_dir"] if node.kind == "dir" else asked_of(mode.replace("t", "") if is_made else mode)
     commands = opening_commands(node.kind, mode, shown, shown == path)
     event = Event(call.line, commands, [Ask(it, chain) for it in rights], named=[chain])
     if is_made:
-        event.asks.append(Ask("make_reg", trace.tree.chain(spot.directory)))
+        above = trace.tree.chain(spot.directory)
+        event.asks.append(Ask("make_reg", above))
+        event.again = [Ask("truncate", above)] if is_cut and "O_EXCL" not in flags else []
         event.made, event.changed = node, [node]
     trace.add(event)
     remember(call, process, Opened(path, node, chain, event, Spot(spot.directory, spot.name, node)), flags)

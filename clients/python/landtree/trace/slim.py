@@ -53,12 +53,13 @@ def slimmed(events: Sequence[Event]) -> List[Event]:
 
 
 def needs_of(event: Event, least: Set[Tuple[str, Places]]) -> Set[Hashable]:
-    """Returns the asks of an event that count, and its moves."""
+    """Returns the asks of an event that count, its moves, and what it would ask for the next time."""
     asks = {(ask.right, places_of(ask.chain)) for ask in event.asks}
     of_files = [it for it in event.asks if it.right in FILE_WORDS and it.chain[-1].start]
     below = {("below", *it) for it in (granting(ask, least) for ask in of_files) if it}
     moves = {(move.kind, places_of(move.own), places_of(move.into)) for move in event.moves}
-    return {*(asks & least), *below, *moves}
+    again = {("again", it.right, places_of(it.chain)) for it in event.again}
+    return {*(asks & least), *below, *moves, *again}
 
 
 def granting(ask: Ask, least: Set[Tuple[str, Places]]) -> Optional[Tuple[str, Places]]:

@@ -9,6 +9,7 @@ from .holders import Files, Opened, Place, Process
 from .inventory import Inventory
 from .lives import Lives
 from .log import Call, Descriptor, End, descriptor_of
+from .misfits import Misfits
 from .tree import Node, Spot, Tree, Unknown
 
 
@@ -21,6 +22,7 @@ class Trace:
         self.lives = lives
         self.processes: Dict[int, Process] = {}
         self.events: List[Event] = []
+        self.misfits = Misfits()
         self.notes: List[Note] = []
         # Directories of which a note has said that they weren't listed before.
         self.unlisted: Set[str] = set()
@@ -29,7 +31,12 @@ class Trace:
         self.notes.append(Note(call.line, text))
 
     def add(self, event: Event) -> Event:
-        self.events.append(event)
+        """Takes an event, unless a policy can't have the names of what it asks for."""
+        misfit = self.misfits.first_of(event)
+        if misfit:
+            self.notes.append(Note(event.line, f"no policy can have {misfit}; what is asked for there isn't learned"))
+        else:
+            self.events.append(event)
         return event
 
     # ---- processes

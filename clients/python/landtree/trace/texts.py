@@ -6,21 +6,16 @@ from typing import Dict, Iterable, List, Sequence
 
 from ..directories import Node
 from ..errors import Fault
-from ..names import encoded, unfit
+from ..names import encoded
 from ..policy import Policy
 from ..values import DIRECTORY_NAMES, TREE_NODES
-from .events import Event
+from .events import Event, starts_of
 from .tree import Tree
 
 
 def first_nodes(events: Iterable[Event]) -> List[Node]:
     """Returns what the events name of the files that were there when the program began, each after its directory."""
-    kinds: Dict[str, str] = {}
-    for event in events:
-        chains = [*event.named, *(ask.chain for ask in event.asks)]
-        for chain in [*chains, *(it for move in event.moves for it in (move.own, move.into))]:
-            kinds.update((node.start, node.kind) for node in chain if node.start is not None and node.is_lasting)
-    kinds.pop("/", None)
+    kinds = starts_of(events)
     return [Node(encoded(path), kinds[path]) for path in sorted(kinds, key=lambda it: it.split("/"))]
 
 
@@ -36,16 +31,10 @@ def beside_made(events: Sequence[Event], nodes: Sequence[Node], tree: Tree) -> L
     `landtree learn` tells that what is granted there for new files reaches such a file too.
     """
     known = {above or "/" for it in nodes for above in directories_of(it.path)}
-    found: Dict[str, Node] = {}
-    for event in events:
-        for ask in event.asks:
-            start = ask.chain[-1].start if ask.right.startswith("make_") else None
-            if start is None or not ask.chain[-1].is_lasting or encoded(start) in known or encoded(start) in found:
-                continue
-            inside = tree.first_old(ask.chain[-1])
-            if inside and inside.start and not unfit(encoded(inside.start)):
-                found[encoded(start)] = Node(encoded(inside.start), inside.kind)
-    return list(found.values())
+    making = (it.chain[-1] for event in events for it in event.asks if it.right.startswith("make_"))
+    directories = [it for it in dict.fromkeys(making) if it.start is not None and it.is_lasting]
+    beside = [tree.first_old(it) for it in directories if encoded(it.start or "") not in known]
+    return [Node(encoded(it.start), it.kind) for it in beside if it is not None and it.start is not None]
 
 
 def nodes_text(nodes: Sequence[Node]) -> str:
@@ -59,13 +48,6 @@ def checks_text(events: Iterable[Event]) -> str:
 
 def need_room(log: str, nodes: Sequence[Node], events: Sequence[Event]) -> None:
     """Raises `Fault` if the tree can't have these nodes and those that the events make."""
-    for node in nodes:
-        if unfit(node.path):
-            raise Fault(f"{log}: no policy can have {node.path}: {unfit(node.path)}")
-    for event in events:
-        for path in (it for command in event.commands for it in command.paths):
-            if unfit(encoded(path)):
-                raise Fault(f"{log}:{event.line}: no policy can have {encoded(path)}: {unfit(encoded(path))}")
     made = sum(event.made is not None for event in events)
     count = 1 + len(nodes) + made
     if count > TREE_NODES:

@@ -7,6 +7,7 @@ import re
 from dataclasses import dataclass, field
 from typing import Callable, Dict, List, Optional, Tuple
 
+from ..names import encoded, unfit
 from .inventory import Entry, Inventory
 
 MOST_LINKS = 40
@@ -61,6 +62,11 @@ Held = Callable[[int, str], Optional[Spot]]
 
 def names_of(path: str) -> List[str]:
     return [it for it in path.split("/") if it not in ("", ".")]
+
+
+def fits(path: str) -> bool:
+    """Says whether a policy can have a real path."""
+    return not unfit(encoded(path))
 
 
 def passing_node(where: str, name: str) -> Node:
@@ -175,23 +181,25 @@ class Tree:
         return node
 
     def first_in(self, directory: Node) -> Optional[Node]:
-        """Returns something that lies in a directory, if it is known."""
+        """Returns something that lies in a directory, if it is known and a policy can have its path."""
         for node in directory.names.values():
-            if node is not None:
+            if node is not None and (node.start is None or fits(node.start)):
                 return node
         return self._unseen_in(directory)
 
     def first_old(self, directory: Node) -> Optional[Node]:
-        """Returns something that lay in a directory when the program began, and lies there yet, if it is known."""
+        """Returns something that lay in a directory when the program began, and lies there yet, as `first_in` does."""
         for node in directory.names.values():
-            if node is not None and node.start and posixpath.dirname(node.start) == directory.start:
+            start = node.start if node is not None else None
+            if start and posixpath.dirname(start) == directory.start and fits(start):
                 return node
         return self._unseen_in(directory)
 
     def _unseen_in(self, directory: Node) -> Optional[Node]:
         """Returns something that lay in a directory when the program began, and that no call has named."""
+        start = (directory.start or "").rstrip("/")
         names = self.inventory.names_in(directory.start) if directory.start else []
-        name = next((it for it in names if it not in directory.names), None)
+        name = next((it for it in names if it not in directory.names and fits(f"{start}/{it}")), None)
         return None if name is None else self.look(directory, name)
 
     def chain(self, directory: Node, node: Optional[Node] = None) -> Chain:
