@@ -1,8 +1,11 @@
 pub mod AcceptedRules
+pub mod AlikePaths
+pub mod AlikeReplies
 pub mod FirstChoice
 pub mod ClearLayers
 pub mod Denials
 pub mod PathDifferences
+pub mod GrantedAlike
 pub mod RightDemands
 pub mod Ended
 pub mod TextGrowth
@@ -13,5 +16,6 @@ pub mod Numbered
 pub mod Openings
 pub mod TableRows
 pub mod RuledLayers
+pub mod SameVerdicts
 pub mod Sets
 pub mod TokenTexts

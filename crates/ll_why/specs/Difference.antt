@@ -1,19 +1,20 @@
 -- What a policy grants a client more and less than an older one, a line for each path. own
 use Rattle.std.specs.Prelude.{◌≡◌, ℕ, Bool, true, false, not, ◌&&◌, ◌||◌, ◌==◌, List, [], ◌∷◌, ◌++◌, Option, Some, None}
-use Rattle.std.specs.Prelude.{bit_and, bit_xor, bytes_eq, codes, if◌then◌else◌, option_to_list}
+use Rattle.std.specs.Prelude.{bytes_eq, codes, if◌then◌else◌, option_to_list}
 use Rattle.std.specs.List.{concat, flat_map, list_any}
 use Rattle.std.specs.Option.{option_map_or}
 use Rattle.ll_rights.specs.declared.kind.Kind.{Kind}
-use Rattle.ll_rights.specs.Access.{access_text}
 use Rattle.ll_rights.specs.Kind.{kind_text}
 use Rattle.ll_path.specs.Path.{Path, path_text}
 use Rattle.ll_rules.specs.Layer.{Layer}
 use Rattle.ll_seq.specs.declared.call.Call.{Call}
 use Rattle.ll_seq.specs.State.{State}
+use Rattle.ll_why.specs.LayerDifference.{layer_differences, same_layers}
 use Rattle.ll_why.specs.PathRows.{made_path}
 use Rattle.ll_why.specs.Quoted.{json_string}
 use Rattle.ll_why.specs.Rights.{AreRightsAt}
 use Rattle.ll_why.specs.RightsJson.{there_json}
+use Rattle.ll_why.specs.Signed.{change_tokens}
 use Rattle.ll_why.specs.Table.{behind, row_tokens}
 use Rattle.ll_why.specs.declared.rights.PathRights.{PathRights}
 use Rattle.ll_why.specs.declared.rights.RightsAt.{RightsAt}
@@ -41,14 +42,15 @@ is_turned (New file directory) (New file' directory') = false
 is_turned (Nowhere old) (Nowhere new) = not (same_kinds old new)
 is_turned old new = true
 
-abbrev pub same_rights : PathRights → PathRights → Bool
-same_rights old new = old.rights.0 == new.rights.0
+-- the layers grant the same rights, one by one
+abbrev pub same_by_layers : PathRights → PathRights → Bool
+same_by_layers old new = same_layers old.layers.items new.layers.items
 
--- all layers together grant other rights than before on the node, or on a new file or directory
+-- some layer grants other rights than before on the node, or on a new file or directory
 abbrev pub is_changed : (old new : RightsAt) → Bool
-is_changed (Node old) (Node new) = not (same_rights old new)
+is_changed (Node old) (Node new) = not (same_by_layers old new)
 is_changed (New file directory) (New file' directory') =
-    not (same_rights file file' && same_rights directory directory')
+    not (same_by_layers file file' && same_by_layers directory directory')
 is_changed old new = false
 
 abbrev pub differs : (old new : RightsAt) → Bool
@@ -56,21 +58,19 @@ differs old new = is_turned old new || is_changed old new
 
 -- ---- the line of a path
 
--- the rights of the set that the others lack
-abbrev pub beyond : (set others : ℕ) → ℕ
-beyond set others = bit_xor set (bit_and set others)
+-- all layers together grant the same rights
+abbrev pub same_rights : PathRights → PathRights → Bool
+same_rights old new = old.rights.0 == new.rights.0
 
--- the rights behind this sign, if there are any
-abbrev pub signed : List ℕ → ℕ → List (List ℕ)
-signed sign rights = if rights == 0 then [] else (sign ++ access_text rights) ∷ []
-
--- the rights that are granted and weren't, and those that were and aren't
-abbrev pub change_tokens : (old new : ℕ) → List (List ℕ)
-change_tokens old new = signed (codes "+") (beyond new old) ++ signed (codes "-") (beyond old new)
+-- what all layers together grant more and less; if they grant the same, what single layers do
+abbrev pub rights_change : (old new : PathRights) → List (List ℕ)
+rights_change old new =
+    if same_rights old new then layer_differences old.layers.items new.layers.items
+    else change_tokens old.rights.0 new.rights.0
 
 -- a word, and what is granted more and less
 abbrev pub change_of : List ℕ → (old new : PathRights) → List (List ℕ)
-change_of word old new = word ∷ change_tokens old.rights.0 new.rights.0
+change_of word old new = word ∷ rights_change old new
 
 -- on a node of the same kind
 abbrev pub node_change : (old new : PathRights) → List (List ℕ)
@@ -158,7 +158,8 @@ only_path others (Some path) = unless_created others path
 abbrev pub only_paths : (others calls : List Call) → List Path
 only_paths others = flat_map (λ call. option_to_list (only_path others (made_path call)))
 
--- these paths, or without any those of the new policy's nodes, and then those of the old one's that aren't among them
+-- these paths, or without any the root, those of the new policy's nodes, and then those of the old one's that aren't
+-- among them
 abbrev pub paths_compared : List Path → (new old : List Call) → List Path
-paths_compared [] new old = only_paths [] new ++ only_paths new old
+paths_compared [] new old = [] ∷ (only_paths [] new ++ only_paths new old)
 paths_compared (path ∷ paths) new old = path ∷ paths

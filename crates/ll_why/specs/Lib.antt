@@ -6,6 +6,7 @@ pub mod Entries
 pub mod EntryJson
 pub mod Explained
 pub mod Grants
+pub mod LayerDifference
 pub mod Names
 pub mod Opener
 pub mod PathRows
@@ -14,6 +15,8 @@ pub mod Quoted
 pub mod Reasons
 pub mod Rights
 pub mod RightsJson
+pub mod SameVerdicts
+pub mod Signed
 pub mod Table
 pub mod Told
 pub mod WhyJson

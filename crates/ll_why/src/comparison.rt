@@ -9,7 +9,7 @@ ghost use Rattle.ll_why.specs.PathRows.{made_path};
 use crate::difference::{DifferenceStyle, difference_in, differs};
 use crate::path_rows::made_path;
 use crate::rights_at;
-use ll_path::Path;
+use ll_path::{Path, Word};
 use ll_plain::Plain;
 use ll_rules::Domain;
 use ll_seq::Call;
@@ -87,6 +87,17 @@ fn only_path<'a>(others: &[Call], call: &'a Call) -> Option<&'a Path>
     }
 }
 
+// Returns the root's path.
+fn root_path(alloc: Global) -> Result<Path, AllocError>
+    ensures { IfOk result (λ path. path ≡ []) }
+{
+    let word = Word::from_text(alloc, "/")?;
+    let Ok(root) = Path::parse(word) else {
+        unreachable!()
+    };
+    Ok(root)
+}
+
 impl Comparison<'_> {
     // Appends the line of one path, if something differs there.
     fn push_path(
@@ -155,7 +166,15 @@ impl Comparison<'_> {
         Ok(told)
     }
 
-    // Returns the lines of the nodes that the new calls create, and then of those that only the old ones do.
+    // Returns the root's line.
+    fn at_root(&self, alloc: Global) -> Result<Differences, AllocError>
+        ensures { IfOk result (λ told. AreCompared self.now ([] ∷ []) told.found (string_bytes told.text)) }
+    {
+        let root = root_path(alloc)?;
+        self.at_paths(alloc, &[root])
+    }
+
+    // Returns the lines of the root, of the nodes that the new calls create, and of those that only the old ones do.
     fn at_all_nodes(
         &self,
         alloc: Global,
@@ -165,14 +184,16 @@ impl Comparison<'_> {
         ensures { IfOk result (λ told. AreCompared self.now (paths_compared [] new.now old.now) told.found
             (string_bytes told.text)) }
     {
-        let mut told = self.at_nodes(alloc, &[], new)?;
-        let more = self.at_nodes(alloc, new, old)?;
-        told.push(more.text.as_str(), more.found)?;
+        let mut told = self.at_root(alloc)?;
+        let nodes = self.at_nodes(alloc, &[], new)?;
+        told.push(nodes.text.as_str(), nodes.found)?;
+        let others = self.at_nodes(alloc, new, old)?;
+        told.push(others.text.as_str(), others.found)?;
         Ok(told)
     }
 
-    /// Returns a line for each of the paths where the rights differ; without paths, of the nodes that the new policy's
-    /// calls create, and then of those that only the old one's do. Errors: memory ran out.
+    /// Returns a line for each of the paths where the rights differ; without paths, of the root, of the nodes that the
+    /// new policy's calls create, and then of those that only the old one's do. Errors: memory ran out.
     pub fn differences(
         &self,
         alloc: Global,

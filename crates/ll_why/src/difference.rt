@@ -1,19 +1,21 @@
 //! The line on what a policy grants more and less at a path than an older one.
 
 ghost use Rattle.std.specs.Prelude.{◌≡◌, ◌++◌, IfOk, OnOk, string_bytes};
-ghost use Rattle.ll_why.specs.Difference.{beyond, change_of, change_tokens, difference_by, difference_in};
-ghost use Rattle.ll_why.specs.Difference.{difference_json, difference_line, difference_tokens, differs};
-ghost use Rattle.ll_why.specs.Difference.{is_changed, is_turned, kept_tokens, new_change, node_change, same_kind};
-ghost use Rattle.ll_why.specs.Difference.{same_kinds, same_rights, signed, turned_tokens};
+ghost use Rattle.ll_why.specs.Difference.{change_of, difference_by, difference_in, difference_json};
+ghost use Rattle.ll_why.specs.Difference.{difference_line, difference_tokens, differs, is_changed, is_turned};
+ghost use Rattle.ll_why.specs.Difference.{kept_tokens, new_change, node_change, rights_change, same_by_layers};
+ghost use Rattle.ll_why.specs.Difference.{same_kind, same_kinds, same_rights, turned_tokens};
 ghost use Rattle.ll_why.specs.Table.{behind};
 
+use crate::layer_difference::{are_same_layers, push_layer_differences};
 use crate::quoted::json_string;
 use crate::rights_json::there_json;
+use crate::signed::push_change;
 use crate::table::{push_token, push_told};
 use crate::text::concat;
 use crate::{PathRights, RightsAt};
 use ll_path::Path;
-use ll_rights::{Access, Kind};
+use ll_rights::Kind;
 use std::alloc::{AllocError, Global};
 
 /// How a difference is written.
@@ -54,20 +56,21 @@ fn is_turned(old: &RightsAt, new: &RightsAt) -> bool
     }
 }
 
-fn have_same_rights(old: &PathRights, new: &PathRights) -> bool
-    ensures { result ≡ same_rights old.now new.now }
+// Reports whether the layers grant the same rights, one by one.
+fn are_same_by_layers(old: &PathRights, new: &PathRights) -> bool
+    ensures { result ≡ same_by_layers old.now new.now }
 {
-    old.rights.0 == new.rights.0
+    are_same_layers(old.layers.as_slice(), new.layers.as_slice())
 }
 
-// Reports whether all layers together grant other rights on the node, or on a new file or directory.
+// Reports whether some layer grants other rights on the node, or on a new file or directory.
 fn is_changed(old: &RightsAt, new: &RightsAt) -> bool
     ensures { result ≡ is_changed old.now new.now }
 {
     match (old, new) {
-        (RightsAt::Node(old), RightsAt::Node(new)) => !have_same_rights(old, new),
+        (RightsAt::Node(old), RightsAt::Node(new)) => !are_same_by_layers(old, new),
         (RightsAt::New(old_file, old_directory), RightsAt::New(file, directory)) => {
-            !(have_same_rights(old_file, file) && have_same_rights(old_directory, directory))
+            !(are_same_by_layers(old_file, file) && are_same_by_layers(old_directory, directory))
         }
         _ => false,
     }
@@ -80,39 +83,28 @@ pub(crate) fn differs(old: &RightsAt, new: &RightsAt) -> bool
     is_turned(old, new) || is_changed(old, new)
 }
 
-// Returns the rights of the set that the others lack.
-fn beyond(set: Access, others: Access) -> Access
-    ensures { result.0 ≡ beyond set.0 others.0 }
+// Reports whether all layers together grant the same rights.
+fn have_same_rights(old: &PathRights, new: &PathRights) -> bool
+    ensures { result ≡ same_rights old.now new.now }
 {
-    Access(set.0 ^ (set.0 & others.0))
+    old.rights.0 == new.rights.0
 }
 
-// Appends the rights behind this sign, if there are any.
-fn push_signed(
+// Appends what all layers together grant more and less; if they grant the same, what single layers do.
+fn push_rights_change(
     alloc: Global,
     text: &mut String,
-    sign: &str,
-    rights: Access,
+    old: &PathRights,
+    new: &PathRights,
 ) -> Result<(), AllocError>
     ensures { OnOk result (string_bytes text.new
-        ≡ string_bytes text.old ++ behind (signed sign.now rights.0)) }
+        ≡ string_bytes text.old ++ behind (rights_change old.now new.now)) }
 {
-    if rights.0 == 0 {
-        return Ok(());
+    if have_same_rights(old, new) {
+        push_layer_differences(alloc, text, old.layers.as_slice(), new.layers.as_slice())
+    } else {
+        push_change(alloc, text, old.rights, new.rights)
     }
-    let names = rights.text(alloc)?;
-    text.push_str(" ")?;
-    text.push_str(sign)?;
-    text.push_str(names.as_str())
-}
-
-// Appends the rights that are granted and weren't, and those that were and aren't.
-fn push_change(alloc: Global, text: &mut String, old: Access, new: Access) -> Result<(), AllocError>
-    ensures { OnOk result (string_bytes text.new
-        ≡ string_bytes text.old ++ behind (change_tokens old.0 new.0)) }
-{
-    push_signed(alloc, text, "+", beyond(new, old))?;
-    push_signed(alloc, text, "-", beyond(old, new))
 }
 
 // Appends a word, and what is granted more and less.
@@ -127,7 +119,7 @@ fn push_change_of(
         ≡ string_bytes text.old ++ behind (change_of word.now old.now new.now)) }
 {
     push_token(text, word)?;
-    push_change(alloc, text, old.rights, new.rights)
+    push_rights_change(alloc, text, old, new)
 }
 
 // Appends the node's kind, and what is granted on it more and less.

@@ -1,8 +1,8 @@
 use Rattle.std.proofs.Common.{◌≡◌, ◌++◌, ap, ◌∙◌, codes, string_bytes}
-use Rattle.ll_why.specs.Difference.{beyond, signed}
+use Rattle.ll_why.specs.Signed.{beyond, signed}
 use Rattle.ll_why.specs.Table.{behind}
 use Rattle.ll_why.proofs.TokenTexts.{on_ok, two}
-use Rattle.ll_why.proofs.difference.push_change.Goals as goal
+use Rattle.ll_why.proofs.signed.push_change.Goals as goal
 
 pub returns : goal.returns
 returns c =
