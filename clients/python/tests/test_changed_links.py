@@ -2,11 +2,10 @@
 
 import os
 import subprocess
-import sys
 import time
 from unittest import mock
 
-from tests.support import ENVIRONMENT, LONGEST, Case, needs_strace
+from tests.support import COMMAND, ENVIRONMENT, LONGEST, Case, needs_strace
 
 from landtree.trace import convert
 from landtree.trace.inventory import Inventory
@@ -92,7 +91,7 @@ class Replaced(Case):
         time.sleep(0.1)
         script = "import os; os.truncate('../pub/link/x', 0); os.rename('../pub/link/x', '../pub/link/y')"
         log = self.room / "run.log"
-        words = [sys.executable, "-m", "landtree", "record", "--to", log, "--"]
+        words = [*COMMAND, "record", "--to", log, "--"]
         words += ["/usr/bin/python3", "-I", "-S", "-c", script]
         how = {"cwd": self.room / "work", "env": ENVIRONMENT, "timeout": LONGEST, "capture_output": True}
         self.assertEqual(subprocess.run(words, check=False, **how).returncode, 0)

@@ -2,10 +2,9 @@
 
 import os
 import subprocess
-import sys
 import unittest
 
-from tests.support import ENVIRONMENT, LONGEST, Case, needs_strace
+from tests.support import COMMAND, ENVIRONMENT, LONGEST, Case, needs_strace
 from tests.traces import Tracing
 
 from landtree.trace import convert
@@ -109,7 +108,7 @@ class Recorded(Case):
     def test_a_number_of_two_processes(self):
         self.put("work/f"), self.put("work/a/x")
         log = self.room / "run.log"
-        words = [sys.executable, "-m", "landtree", "record", "--to", log, "--"]
+        words = [*COMMAND, "record", "--to", log, "--"]
         words += ["/usr/bin/python3", "-I", "-S", "-c", REUSE]
         how = {"cwd": self.room / "work", "env": ENVIRONMENT, "capture_output": True, "timeout": LONGEST}
         ended = subprocess.run(words, check=False, **how)

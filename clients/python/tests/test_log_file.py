@@ -2,11 +2,10 @@
 
 import os
 import subprocess
-import sys
 from pathlib import Path
 from unittest import mock
 
-from tests.support import ENVIRONMENT, LONGEST, Case, needs_landlock, needs_strace
+from tests.support import COMMAND, ENVIRONMENT, LONGEST, Case, needs_landlock, needs_strace
 
 from landtree.trace.log_file import LogFile
 
@@ -80,7 +79,7 @@ class Files(Case):
 @needs_strace
 class Hostile(Case):
     def record(self, script, *words):
-        call = [sys.executable, "-m", "landtree", "record", *words, "--", "sh", "-c", script]
+        call = [*COMMAND, "record", *words, "--", "sh", "-c", script]
         how = {"cwd": self.room, "env": ENVIRONMENT, "timeout": LONGEST, "capture_output": True, "text": True}
         return subprocess.run(call, check=False, **how)
 

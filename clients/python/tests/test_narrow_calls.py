@@ -1,9 +1,8 @@
 """Calls of 32-bit code, which a 64-bit program may run too, and calls that no policy can say."""
 
 import subprocess
-import sys
 
-from tests.support import ENVIRONMENT, LONGEST, Case, needs_strace, needs_tools
+from tests.support import COMMAND, ENVIRONMENT, LONGEST, Case, needs_strace, needs_tools
 from tests.traces import Tracing
 
 from landtree.trace import convert
@@ -65,7 +64,7 @@ class Recorded(Case):
         if built.returncode or subprocess.run([binary], cwd=self.room / "other", check=False).returncode:
             self.skipTest("no 32-bit calls here")
         log = self.room / "run.log"
-        words = [sys.executable, "-m", "landtree", "record", "--to", log, "--", binary]
+        words = [*COMMAND, "record", "--to", log, "--", binary]
         how = {"cwd": self.room / "work", "env": ENVIRONMENT, "timeout": LONGEST, "capture_output": True}
         self.assertEqual(subprocess.run(words, check=False, **how).returncode, 0)
         converted = convert(log)

@@ -1,9 +1,8 @@
 """Paths through the links of /proc that lead to what a process has: its working directory, open files and program."""
 
 import subprocess
-import sys
 
-from tests.support import ENVIRONMENT, LONGEST, PROGRAM, Case, needs_strace
+from tests.support import COMMAND, ENVIRONMENT, LONGEST, PROGRAM, Case, needs_strace
 from tests.traces import Tracing
 
 from landtree import Commands
@@ -200,7 +199,7 @@ class Recorded(Case):
         for name in ("t", "t2"):
             self.put(f"work/in/d/{name}", "#!/bin/true\n").chmod(0o755)
         log = self.room / "run.log"
-        words = [sys.executable, "-m", "landtree", "record", "--to", log, "--"]
+        words = [*COMMAND, "record", "--to", log, "--"]
         words += ["/usr/bin/python3", "-I", "-S", "-c", CALLS]
         ended = subprocess.run(words, cwd=folder, env=ENVIRONMENT, capture_output=True, timeout=LONGEST, check=False)
         self.assertEqual(ended.returncode, 0, ended.stderr)

@@ -3,9 +3,8 @@
 import json
 import os
 import subprocess
-import sys
 
-from tests.support import ENVIRONMENT, LONGEST, PROGRAM, Case, needs_strace
+from tests.support import COMMAND, ENVIRONMENT, LONGEST, PROGRAM, Case, needs_strace
 from tests.traces import Tracing
 
 from landtree import Commands, load_policy
@@ -169,7 +168,7 @@ class Converting(Case):
         work = self.room / "work"
         work.mkdir()
         script = f"echo x >{LONG}; cat {LONG}; mv {LONG} short; cat short; echo y >other; cat other"
-        words = [sys.executable, "-m", "landtree", "record", "--to", "../run.log", "--", "sh", "-c", script]
+        words = [*COMMAND, "record", "--to", "../run.log", "--", "sh", "-c", script]
         how = {"cwd": work, "env": {**ENVIRONMENT, "LC_ALL": "C.UTF-8"}, "timeout": LONGEST, "capture_output": True}
         self.assertEqual(subprocess.run(words, check=False, **how).returncode, 0)
         converted = convert(self.room / "run.log")
