@@ -78,6 +78,13 @@ class Numbers(Tracing):
         made = [it for it in self.commands(*lines) if it.startswith("make")]
         self.assertEqual(made, ["make dir /w/d/m", "make dir /w/d/n"])
 
+    def test_many_that_are_under_way(self):
+        # Each child starts the next one before its own call has ended.
+        count = 2_000
+        lines = ["7 chdir(\"d\") = 0", *(f"{it} vfork( <unfinished ...>" for it in range(7, count))]
+        lines += [f'{count} mkdir("m", 0777) = 0', *(f"{it} <... vfork resumed>) = {it + 1}" for it in range(7, count))]
+        self.assertEqual((self.commands(*lines), self.notes(*lines)), (["make dir /w/d/m"], []))
+
     def test_who_is_not_known(self):
         # 7 was killed in its call, so the log doesn't say that 8 is its child.
         lines = [f"7 {FORK.rstrip(')')} <unfinished ...>", "7 +++ killed by SIGKILL +++", '8 mkdir("m", 0777) = 0']

@@ -3,16 +3,15 @@
 from __future__ import annotations
 
 import os
-from dataclasses import dataclass
+from dataclasses import dataclass, field
 from pathlib import Path
 from typing import Dict, List, Optional, Tuple
 
-from ..errors import Fault
 from ..values import DIRECTORY_NAMES
 from .events import Note
 from .files import write_all
-from .reader import read
-from .recording import Recording
+from .reach import only_read
+from .recording import read_recorded
 from .rehearsal import rehearsed
 from .slim import slimmed
 from .texts import beside_made, checks_text, first_nodes, need_room, nodes_text
@@ -23,7 +22,8 @@ class Converted:
     """What came of a log.
 
     `nodes` is the text of a policy without profiles, and `checks` that of a file of checks. `notes` says what a policy
-    can't say. `calls` counts the calls that ask for rights, and `commands` those that are kept.
+    can't say. `calls` counts the calls that ask for rights, and `commands` those that are kept. `only_read` has the
+    files that the program only read, as `files_only_read` does.
     """
 
     log: str
@@ -33,6 +33,7 @@ class Converted:
     shared: List[Tuple[str, str]]
     calls: int
     commands: int
+    only_read: List[str] = field(default_factory=list)
 
     def told(self) -> List[str]:
         """Returns a line for all that a policy can't say, with the first line of the log that shows it."""
@@ -55,11 +56,7 @@ def convert(log: "os.PathLike[str] | str", *, whole: bool = False) -> Converted:
 
     A log that was cut or isn't strace's, and one that needs more nodes than a tree has, is a `Fault`.
     """
-    recording = Recording.load(log)
-    try:
-        trace = read(log, recording.inventory, recording.directory)
-    except OSError as error:
-        raise Fault(f"{os.fspath(log)}: {error.strerror}") from None
+    trace = read_recorded(log)
     notes = trace.notes
     events = rehearsed(trace.events, notes)
     events = rehearsed(events if whole else slimmed(events), notes, DIRECTORY_NAMES)
@@ -69,7 +66,7 @@ def convert(log: "os.PathLike[str] | str", *, whole: bool = False) -> Converted:
     texts = (os.fspath(log), nodes_text(nodes), checks_text(events))
     commands = sum(len(it.commands) for it in events)
     notes.sort(key=lambda it: it.line)
-    return Converted(*texts, notes, trace.tree.shared, len(trace.events), commands)
+    return Converted(*texts, notes, trace.tree.shared, len(trace.events), commands, only_read(trace.events))
 
 
 def names_beside(log: "os.PathLike[str] | str", nodes: Optional[str], checks: Optional[str]) -> Tuple[Path, Path]:

@@ -19,8 +19,9 @@ from ..values import KINDS, Rights
 from .files import write_all
 from .inventory import Entry, Inventory, inventory_of
 from .log_file import MODE, LogFile
-from .reader import NARROW, TRACED
+from .reader import NARROW, TRACED, read
 from .runs import Run, Starter, run_traced
+from .state import Trace
 
 FORM = 1
 # From 5.3 on strace has --seccomp-bpf, without which a program that opens many files is ten times slower.
@@ -73,6 +74,16 @@ class Recording:
         entries = {path: loaded_entry(*it) for path, it in data["entries"].items()}
         inventory = Inventory([str(it) for it in data["directories"]], float(data["began"]), entries)
         return cls(log, [str(it) for it in data["words"]], str(data["directory"]), inventory, data["status"])
+
+
+def read_recorded(log: "os.PathLike[str] | str") -> Trace:
+    """Returns what the calls of a log ask for that `record` has made. A log that it hasn't, or that was cut, is a
+    `Fault`."""
+    recording = Recording.load(log)
+    try:
+        return read(log, recording.inventory, recording.directory)
+    except OSError as error:
+        raise Fault(f"{os.fspath(log)}: {error.strerror}") from None
 
 
 def loaded_entry(kind: Any, link: Any, key: Any) -> Entry:

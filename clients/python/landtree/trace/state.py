@@ -7,7 +7,7 @@ from typing import Dict, List, Optional, Set
 from .events import AFTER_POLICY, Event, Note
 from .holders import Files, Opened, Place, Process
 from .inventory import Inventory
-from .lives import Lives
+from .lives import Birth, Lives
 from .log import Call, Descriptor, End, descriptor_of
 from .misfits import Misfits
 from .tree import Node, Spot, Tree, Unknown
@@ -43,12 +43,20 @@ class Trace:
 
     def process(self, number: int, line: int) -> Process:
         """Returns a process, which has at first what its parent has or shares with it."""
-        if number not in self.processes:
-            birth = self.lives.birth_of(number)
-            if birth is not None:
-                self.processes[number] = self.child(number, self.process(birth.parent, line), birth.flags)
+        if number in self.processes:
+            return self.processes[number]
+        # Parents first: the calls that have started them may all be under way yet.
+        lineage: Dict[int, Optional[Birth]] = {}
+        above: Optional[int] = number
+        while above is not None and above not in self.processes and above not in lineage:
+            birth = lineage[above] = self.lives.birth_of(above)
+            above = birth.parent if birth else None
+        for it, birth in reversed(lineage.items()):
+            parent = self.processes.get(birth.parent) if birth else None
+            if birth is not None and parent is not None:
+                self.processes[it] = self.child(it, parent, birth.flags)
             else:
-                self.processes[number] = Process(number, number, Place(self.first_place(number, line)), Files())
+                self.processes[it] = Process(it, it, Place(self.first_place(it, line)), Files())
         return self.processes[number]
 
     def child(self, number: int, parent: Process, flags: str) -> Process:
