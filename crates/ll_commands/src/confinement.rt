@@ -1,14 +1,18 @@
 //! The part of a policy that is exported, and its flaws.
 
-ghost use Rattle.std.specs.Prelude.{◌≡◌, is_none};
+ghost use Rattle.std.specs.Prelude.{◌≡◌, true, false, IfOk, IfErr, is_none};
 ghost use Rattle.std.specs.List.{list_all};
-ghost use Rattle.ll_commands.specs.Confinement.{is_enforceable, is_sound_layer, is_sound_rule, kind_among, kind_at};
-ghost use Rattle.ll_commands.specs.Confinement.{made_at};
+ghost use Rattle.ll_rules.specs.Rules.{create_refusals, new_ruleset};
+ghost use Rattle.ll_commands.specs.Confinement.{is_enforceable, is_free, is_sound_layer, is_sound_rule, kind_among};
+ghost use Rattle.ll_commands.specs.Confinement.{kind_at, made_at};
 
 use ll_path::Target;
 use ll_policy::{Layer, PathText, Rule};
+use ll_rights::limits::{DOMAIN_LAYERS, RULESET_INODES};
 use ll_rights::{Abi, Access, Kind};
+use ll_rules::Ruleset;
 use ll_seq::Call;
+use std::alloc::Global;
 use std::fmt;
 use std::fmt::Display;
 
@@ -23,10 +27,13 @@ pub struct Confinement<'a> {
 /// Why a rule can't be exported.
 #[derive(Clone, Copy, Debug, PartialEq, Eq)]
 pub enum RuleFlaw {
-    /// It allows a right that its layer doesn't handle.
-    GrantsMore,
     /// The policy creates no node at its path.
     NoNode,
+    GrantsNothing,
+    /// It allows a right that its layer doesn't handle.
+    GrantsMore,
+    /// It allows a right that only a directory can have, and its path isn't one.
+    NoDirectory,
 }
 
 /// Why a layer can't be exported. Rules are counted from 1.
@@ -35,6 +42,8 @@ pub enum LayerFlaw {
     HandlesNothing,
     /// It handles a right that the policy's level doesn't have.
     HandlesMore,
+    /// It has so many rules.
+    ManyRules(usize),
     OfRule(usize, RuleFlaw),
 }
 
@@ -42,6 +51,8 @@ pub enum LayerFlaw {
 #[derive(Clone, Copy, Debug, PartialEq, Eq)]
 pub enum Flaw {
     NoLayer,
+    /// There are so many.
+    ManyLayers(usize),
     OfLayer(usize, LayerFlaw),
 }
 
@@ -62,6 +73,12 @@ impl Display for FlawedProfile<'_> {
                     "profile {name} has no layer: the program would run unconfined"
                 );
             }
+            Flaw::ManyLayers(layers) => {
+                return write!(
+                    f,
+                    "profile {name} has {layers} layers, and may have {DOMAIN_LAYERS}"
+                );
+            }
             Flaw::OfLayer(layer, flaw) => (layer, flaw),
         };
         match flaw {
@@ -73,13 +90,26 @@ impl Display for FlawedProfile<'_> {
                 f,
                 "layer {layer} of profile {name} handles a right that the policy's level doesn't know"
             ),
-            LayerFlaw::OfRule(rule, RuleFlaw::GrantsMore) => write!(
+            LayerFlaw::ManyRules(rules) => write!(
                 f,
-                "rule {rule} of layer {layer} of profile {name} grants a right that the layer doesn't handle"
+                "layer {layer} of profile {name} has {rules} rules, and may have {RULESET_INODES}"
             ),
             LayerFlaw::OfRule(rule, RuleFlaw::NoNode) => write!(
                 f,
                 "rule {rule} of layer {layer} of profile {name} is on a path at which the policy has no node"
+            ),
+            LayerFlaw::OfRule(rule, RuleFlaw::GrantsNothing) => write!(
+                f,
+                "rule {rule} of layer {layer} of profile {name} grants nothing"
+            ),
+            LayerFlaw::OfRule(rule, RuleFlaw::GrantsMore) => write!(
+                f,
+                "rule {rule} of layer {layer} of profile {name} grants a right that the layer doesn't handle"
+            ),
+            LayerFlaw::OfRule(rule, RuleFlaw::NoDirectory) => write!(
+                f,
+                "rule {rule} of layer {layer} of profile {name} grants a right that only a directory can have, \
+                 and its path isn't one"
             ),
         }
     }
@@ -116,25 +146,36 @@ pub(crate) fn kind_at(calls: &[Call], path: &PathText) -> Option<Kind>
     kind_among(calls, path)
 }
 
-fn flaw_of_rule(opening: &[Call], handled: Access, rule: &Rule) -> Option<RuleFlaw>
-    ensures { is_none result ≡ is_sound_rule opening.now handled.0 rule.now }
-{
-    if !rule.rights.is_within(handled) {
-        Some(RuleFlaw::GrantsMore)
-    } else if kind_at(opening, &rule.path).is_none() {
-        Some(RuleFlaw::NoNode)
+// Why no ruleset that handles these rights takes a rule with those on the node at its path, if none does.
+fn flaw_of_rights(handled: Access, rights: Access) -> RuleFlaw {
+    if rights.0 == 0 {
+        RuleFlaw::GrantsNothing
+    } else if rights.is_within(handled) {
+        RuleFlaw::NoDirectory
     } else {
-        None
+        RuleFlaw::GrantsMore
     }
 }
 
-// The first flaw of these rules.
-fn flaw_of_rules(opening: &[Call], handled: Access, rules: &[Rule]) -> Option<LayerFlaw>
-    ensures { is_none result ≡ list_all (is_sound_rule opening.now handled.0) rules.now }
+fn flaw_of_rule(opening: &[Call], made: &Ruleset, rule: &Rule) -> Option<RuleFlaw>
+    ensures { is_none result ≡ is_sound_rule opening.now made.now rule.now }
+{
+    let Some(kind) = kind_at(opening, &rule.path) else {
+        return Some(RuleFlaw::NoNode);
+    };
+    match made.refusal(kind, rule.rights) {
+        Some(_) => Some(flaw_of_rights(made.layer().handled(), rule.rights)),
+        None => None,
+    }
+}
+
+// The first flaw of these rules of a ruleset.
+fn flaw_of_rules(opening: &[Call], made: &Ruleset, rules: &[Rule]) -> Option<LayerFlaw>
+    ensures { is_none result ≡ list_all (is_sound_rule opening.now made.now) rules.now }
 {
     let mut number: usize = 1;
     for rule in rules {
-        if let Some(flaw) = flaw_of_rule(opening, handled, rule) {
+        if let Some(flaw) = flaw_of_rule(opening, made, rule) {
             return Some(LayerFlaw::OfRule(number, flaw));
         }
         number = number.saturating_add(1);
@@ -142,25 +183,37 @@ fn flaw_of_rules(opening: &[Call], handled: Access, rules: &[Rule]) -> Option<La
     None
 }
 
-fn flaw_of_layer(abi: Abi, opening: &[Call], layer: &Layer) -> Option<LayerFlaw>
+// Returns a ruleset that handles these rights, or why there is none at this level.
+fn ruleset_for(alloc: Global, abi: Abi, handled: Access) -> Result<Ruleset, LayerFlaw>
+    ensures made { IfOk result (λ made. (is_free (create_refusals abi handled.0) ≡ true)
+        × (made ≡ new_ruleset handled.0)) }
+    ensures flaw { IfErr result (λ flaw. is_free (create_refusals abi handled.0) ≡ false) }
+{
+    match Ruleset::create(alloc, abi, handled) {
+        Ok(ruleset) => Ok(ruleset),
+        Err(_) if handled.0 == 0 => Err(LayerFlaw::HandlesNothing),
+        Err(_) => Err(LayerFlaw::HandlesMore),
+    }
+}
+
+fn flaw_of_layer(alloc: Global, abi: Abi, opening: &[Call], layer: &Layer) -> Option<LayerFlaw>
     ensures { is_none result ≡ is_sound_layer abi opening.now layer.now }
 {
-    if layer.handled.0 == 0 {
-        Some(LayerFlaw::HandlesNothing)
-    } else if !layer.handled.is_within(Access::known(abi)) {
-        Some(LayerFlaw::HandlesMore)
-    } else {
-        flaw_of_rules(opening, layer.handled, layer.rules.as_slice())
+    let rules = layer.rules.as_slice();
+    match ruleset_for(alloc, abi, layer.handled) {
+        Err(flaw) => Some(flaw),
+        Ok(_) if rules.len() > RULESET_INODES => Some(LayerFlaw::ManyRules(rules.len())),
+        Ok(ruleset) => flaw_of_rules(opening, &ruleset, rules),
     }
 }
 
 // The first flaw of these layers.
-fn flaw_of_layers(abi: Abi, opening: &[Call], layers: &[Layer]) -> Option<Flaw>
+fn flaw_of_layers(alloc: Global, abi: Abi, opening: &[Call], layers: &[Layer]) -> Option<Flaw>
     ensures { is_none result ≡ list_all (is_sound_layer abi opening.now) layers.now }
 {
     let mut number: usize = 1;
     for layer in layers {
-        if let Some(flaw) = flaw_of_layer(abi, opening, layer) {
+        if let Some(flaw) = flaw_of_layer(alloc, abi, opening, layer) {
             return Some(Flaw::OfLayer(number, flaw));
         }
         number = number.saturating_add(1);
@@ -169,13 +222,14 @@ fn flaw_of_layers(abi: Abi, opening: &[Call], layers: &[Layer]) -> Option<Flaw>
 }
 
 impl Confinement<'_> {
-    /// Returns the layers' first flaw, or None if they can be exported.
-    pub fn flaw(&self) -> Option<Flaw>
+    /// Returns the layers' first flaw, or None if they can be exported: the tree takes each. Takes no memory.
+    pub fn flaw(&self, alloc: Global) -> Option<Flaw>
         ensures { is_none result ≡ is_enforceable self.now }
     {
-        if self.layers.is_empty() {
-            return Some(Flaw::NoLayer);
+        match self.layers.len() {
+            0 => Some(Flaw::NoLayer),
+            layers if layers > DOMAIN_LAYERS => Some(Flaw::ManyLayers(layers)),
+            _ => flaw_of_layers(alloc, self.abi, self.opening, self.layers),
         }
-        flaw_of_layers(self.abi, self.opening, self.layers)
     }
 }

@@ -50,7 +50,7 @@ fn checked_text(
     ensures failure { IfErr result (λ failure. (failure ≡ Failure.NoMemory)
         ⊎ ((failure ≡ Failure.CommandLine) × (is_enforceable confinement.now ≡ false))) }
 {
-    if confinement.flaw().is_some() {
+    if confinement.flaw(alloc).is_some() {
         return Err(Failure::CommandLine);
     }
     match text_of(alloc, options, form, confinement) {
@@ -106,7 +106,7 @@ pub fn flaw_of<'a>(alloc: Global, text: &str, profile: &'a str) -> Option<Flawed
         opening: opening.as_slice(),
         layers,
     };
-    let flaw = confinement.flaw()?;
+    let flaw = confinement.flaw(alloc)?;
     Some(FlawedProfile {
         name: profile,
         flaw,

@@ -5,5 +5,5 @@ use Rattle.ll_commands.proofs.confinement.flaw_of_rules.Given as goal
 
 -- the rules that are still to come decide
 abbrev pub invariant-loop-rule : goal.invariant-loop-rule
-invariant-loop-rule l = list_all (is_sound_rule l.opening l.handled.0) l.rules
-    ≡ list_all (is_sound_rule l.opening l.handled.0) (drop l.rule-index l.rules)
+invariant-loop-rule l = list_all (is_sound_rule l.opening l.made) l.rules
+    ≡ list_all (is_sound_rule l.opening l.made) (drop l.rule-index l.rules)
