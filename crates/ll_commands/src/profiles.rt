@@ -1,14 +1,23 @@
 //! The rights of all profiles of a policy.
 
 ghost use Rattle.std.specs.Prelude.{◌≡◌, ◌∷◌, ◌++◌, ℕ, List, [], map, IfErr, IfOk, IfSome, OnOk, string_bytes};
+ghost use Rattle.toml.specs.Parse.{parse_document};
+ghost use Rattle.ll_path.specs.Path.{path_of_text};
+ghost use Rattle.ll_policy.specs.Plan.{IsPlanOf};
 ghost use Rattle.ll_wire.specs.Transcript.{Writes};
+ghost use Rattle.ll_program.specs.Policy.{IsPolicy};
 ghost use Rattle.ll_program.specs.Rights.{rights_in};
 ghost use Rattle.ll_commands.specs.Profiles.{AddsTables, AreTables, IsAllTables, IsStyleAmong, LacksTables, StopsAt};
 ghost use Rattle.ll_commands.specs.Profiles.{TellsNotAll, heading_in};
-ghost use Rattle.ll_commands.specs.Rights.{LacksTable};
+ghost use Rattle.ll_commands.specs.Rights.{IsTableIn, LacksTable};
 
-use crate::rights::table_in;
-use ll_program::{AnswerForm, Failure, RightsOptions, paths_of, policy_of, read_text, write_text};
+use crate::rights::table_of;
+use ll_path::Path;
+use ll_policy::Policy;
+use ll_program::{
+    AnswerForm, Failure, RightsOptions, TreeOptions, paths_of, policy_of, read_text, setup_by,
+    write_text,
+};
 use ll_why::RowStyle;
 use std::alloc::{AllocError, Global};
 use std::io::{Read, Write};
@@ -17,6 +26,15 @@ use std::io::{Read, Write};
 pub trait ProfileNotes {
     /// The profile with this name has no table.
     fn of_profile(&mut self, profile: &str);
+}
+
+// A policy, which is read once for all of its profiles, and the text that gives it.
+#[derive(Drop)]
+struct ReadPolicy<'a> {
+    text: &'a [u8],
+    policy: Policy,
+    ghost right: { IsPolicy text.now },
+    ghost plan: { IsPlanOf (parse_document text.now) policy },
 }
 
 // How the profile's rows are written among those of all.
@@ -58,42 +76,65 @@ fn push_rows(
     Ok(())
 }
 
-// Appends the profile's table, by the policy with this text.
+// Returns the profile's rows on these paths in this style.
+fn rows_of(
+    alloc: Global,
+    options: &RightsOptions,
+    read: &ReadPolicy<'_>,
+    paths: &[Path],
+    profile: &str,
+    style: RowStyle,
+) -> Result<String, Failure>
+    requires { paths.now ≡ map path_of_text (rights_in options.now).paths }
+    ensures table { IfOk result (λ rows. IsTableIn style.entry (rights_in options.now) profile.now read.now.text.now
+        (string_bytes rows)) }
+    ensures failure { IfErr result (LacksTable (rights_in options.now) profile.now read.now.text.now) }
+{
+    let tree = TreeOptions::of_profile(options.policy, profile, options.nodes);
+    let setup = setup_by(alloc, &tree, &read.policy)?;
+    table_of(alloc, &setup, paths, style)
+}
+
+// Appends the profile's table.
 fn push_table(
     alloc: Global,
     options: &RightsOptions,
-    policy: &[u8],
+    read: &ReadPolicy<'_>,
+    paths: &[Path],
     profile: &str,
     text: &mut String,
 ) -> Result<(), Failure>
-    ensures table { OnOk result (AddsTables (rights_in options.now) policy.now (profile.now ∷ [])
+    requires { paths.now ≡ map path_of_text (rights_in options.now).paths }
+    ensures table { OnOk result (AddsTables (rights_in options.now) read.now.text.now (profile.now ∷ [])
         (string_bytes text.old) (string_bytes text.new)) }
-    ensures failure { IfErr result (LacksTable (rights_in options.now) profile.now policy.now) }
+    ensures failure { IfErr result (LacksTable (rights_in options.now) profile.now read.now.text.now) }
 {
     let style = style_among(options, profile);
-    let mut file = policy;
-    let rows = table_in(alloc, options, profile, style, &mut file)?;
+    let rows = rows_of(alloc, options, read, paths, profile, style)?;
     match push_rows(text, style, profile, rows.as_str()) {
         Ok(()) => Ok(()),
         Err(_) => Err(Failure::NoMemory),
     }
 }
 
-// Returns the tables of these profiles, by the policy with this text.
+// Returns the tables of these profiles of the policy, on these paths.
 fn tables_of<N: ProfileNotes>(
     alloc: Global,
     options: &RightsOptions,
-    policy: &[u8],
+    read: &ReadPolicy<'_>,
+    paths: &[Path],
     profiles: &[&str],
     notes: &mut N,
 ) -> Result<String, Failure>
-    ensures tables { IfOk result (λ text. AreTables (rights_in options.now) policy.now
+    requires { paths.now ≡ map path_of_text (rights_in options.now).paths }
+    ensures tables { IfOk result (λ text. AreTables (rights_in options.now) read.now.text.now
         (map (λ p. p.now) profiles.now) (string_bytes text)) }
-    ensures failure { IfErr result (StopsAt (rights_in options.now) policy.now (map (λ p. p.now) profiles.now)) }
+    ensures failure { IfErr result
+        (StopsAt (rights_in options.now) read.now.text.now (map (λ p. p.now) profiles.now)) }
 {
     let mut text = String::new(alloc);
     for profile in profiles {
-        match push_table(alloc, options, policy, profile, &mut text) {
+        match push_table(alloc, options, read, paths, profile, &mut text) {
             Ok(()) => {}
             Err(failure) => {
                 notes.of_profile(profile);
@@ -104,19 +145,22 @@ fn tables_of<N: ProfileNotes>(
     Ok(text)
 }
 
-// Returns the tables of all profiles of the policy with this text.
+// Returns the tables of all profiles of the policy with this text, on these paths.
 fn tables_by<N: ProfileNotes>(
     alloc: Global,
     options: &RightsOptions,
-    policy: &[u8],
+    text: &[u8],
+    paths: &[Path],
     notes: &mut N,
 ) -> Result<String, Failure>
-    ensures tables { IfOk result (λ text. IsAllTables (rights_in options.now) policy.now (string_bytes text)) }
-    ensures failure { IfErr result (LacksTables (rights_in options.now) policy.now) }
+    requires { paths.now ≡ map path_of_text (rights_in options.now).paths }
+    ensures tables { IfOk result (λ tables. IsAllTables (rights_in options.now) text.now (string_bytes tables)) }
+    ensures failure { IfErr result (LacksTables (rights_in options.now) text.now) }
 {
-    let plan = policy_of(alloc, policy)?;
-    match plan.names(alloc) {
-        Ok(names) => tables_of(alloc, options, policy, names.as_slice(), notes),
+    let policy = policy_of(alloc, text)?;
+    let read = ReadPolicy { text, policy };
+    match read.policy.names(alloc) {
+        Ok(names) => tables_of(alloc, options, &read, paths, names.as_slice(), notes),
         Err(_) => Err(Failure::NoMemory),
     }
 }
@@ -135,12 +179,9 @@ pub fn all_tables<R: Read, N: ProfileNotes>(
     ensures failure { IfErr result (λ failure. (text : List ℕ) × IfSome (R.remaining file.old) (λ told. text ≡ told)
         × LacksTables (rights_in options.now) text failure) }
 {
-    match paths_of(alloc, options.paths.as_slice()) {
-        Ok(paths) => drop(paths),
-        Err(failure) => return Err(failure),
-    }
+    let paths = paths_of(alloc, options.paths.as_slice())?;
     let text = read_text(alloc, file)?;
-    tables_by(alloc, options, text.as_slice(), notes)
+    tables_by(alloc, options, text.as_slice(), paths.as_slice(), notes)
 }
 
 /// Writes the tables of all profiles that the options ask for, by the policy in this file. Writes nothing before they

@@ -3,7 +3,9 @@
 ghost use Rattle.std.specs.Prelude.{◌≡◌, ℕ, List, IfOk, IfErr, IfSome, OnOk, string_bytes};
 ghost use Rattle.ll_wire.specs.Transcript.{Writes};
 ghost use Rattle.ll_program.specs.Rights.{rights_in};
+ghost use Rattle.ll_seq.specs.State.{State};
 ghost use Rattle.ll_seq.specs.Step.{client_of};
+ghost use Rattle.ll_commands.specs.OpenedTree.{FailsSo, IsStopped, Opens};
 ghost use Rattle.ll_commands.specs.Rights.{IsTable, IsTableIn, LacksTable, MayFail, loader_calls, style_of};
 ghost use Rattle.ll_why.specs.PathRows.{AreRows, paths_or_nodes};
 
@@ -54,6 +56,26 @@ pub fn rows_told(
     rows_text(alloc, &opened.tree, &client.domain, style, paths, calls)
 }
 
+/// Returns the table of this setup's profile in this style, on the given paths, or by default on those of the policy's
+/// nodes. Errors: a call of the setup is refused, or memory ran out.
+pub(crate) fn table_of(
+    alloc: Global,
+    setup: &Setup,
+    paths: &[Path],
+    style: RowStyle,
+) -> Result<String, Failure>
+    ensures table { IfOk result (λ table. (client : ℕ) × (s : State) × Opens setup.now client s
+        × AreRows s (client_of s client).domain style.entry (paths_or_nodes paths.now (loader_calls setup.now))
+        (string_bytes table)) }
+    ensures failure { IfErr result (FailsSo (IsStopped setup.now)) }
+{
+    let opened = open_tree(alloc, setup)?;
+    match rows_told(alloc, &opened, setup, paths, style) {
+        Ok(text) => Ok(text),
+        Err(_) => Err(Failure::NoMemory),
+    }
+}
+
 /// Returns the table of the profile's rights in this style, by the policy in this file. Errors: as of `rights_table`.
 pub(crate) fn table_in<R: Read>(
     alloc: Global,
@@ -73,11 +95,7 @@ pub(crate) fn table_in<R: Read>(
         &TreeOptions::of_profile(options.policy, profile, options.nodes),
         file,
     )?;
-    let opened = open_tree(alloc, &setup)?;
-    match rows_told(alloc, &opened, &setup, paths.as_slice(), style) {
-        Ok(text) => Ok(text),
-        Err(_) => Err(Failure::NoMemory),
-    }
+    table_of(alloc, &setup, paths.as_slice(), style)
 }
 
 /// Returns the table of the profile's rights that the options ask for, by the policy in this file. Errors: a word

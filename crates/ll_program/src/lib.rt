@@ -43,7 +43,7 @@ pub use learn::{LearnOptions, Lessons};
 pub use options::{CheckOptions, Options, RunOptions, ScheduleOptions};
 pub use output::NewFile;
 pub use paths::paths_of;
-pub use policy::{policy_of, setup_of};
+pub use policy::{policy_of, setup_by, setup_of};
 pub use program::{Ran, Recorded, audit, audit_over, begin_record, header_of, run, save_history};
 pub use program_end::{Ended, concluded};
 pub use report::{AnswerForm, ReportForm};

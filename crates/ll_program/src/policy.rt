@@ -56,8 +56,8 @@ fn calls_of(alloc: Global, options: &TreeOptions, policy: &Policy) -> Result<Vec
     }
 }
 
-// Returns the setup by a policy.
-fn by_policy(alloc: Global, options: &TreeOptions, policy: &Policy) -> Result<Setup, Failure>
+/// Returns the setup that the options ask for, by this policy. Errors: it doesn't have the profile; memory ran out.
+pub fn setup_by(alloc: Global, options: &TreeOptions, policy: &Policy) -> Result<Setup, Failure>
     ensures nodes { IfOk result (λ setup. setup.nodes ≡ options.now.nodes) }
     ensures history { IfOk result (λ setup. setup.history ≡ options.now.history) }
     ensures setup { IfOk result (ByPlan (tree_in options.now) policy.now) }
@@ -117,7 +117,7 @@ pub fn setup_of<R: Read>(
     }
     let text = read_text(alloc, file)?;
     match policy_of(alloc, text.as_slice()) {
-        Ok(policy) => by_policy(alloc, options, &policy),
+        Ok(policy) => setup_by(alloc, options, &policy),
         Err(failure) => Err(failure),
     }
 }

@@ -1,28 +1,18 @@
-use Rattle.std.proofs.Common.{◌++◌, [], List, ap, append-nil, ℕ, refl, subst, sym, ◌∙◌, string_bytes, ◌≡◌, Err, rules}
-use Rattle.ll_program.specs.Rights.{rights_in}
+use Rattle.std.proofs.Common.{◌++◌, [], List, ap, append-nil, ℕ, refl, sym, ◌∙◌, string_bytes, ◌≡◌, Err, rules}
 use Rattle.ll_commands.specs.Profiles.{heading_in}
-use Rattle.ll_commands.specs.Rights.{IsTableIn, LacksTable}
 use Rattle.ll_commands.proofs.profiles.push_table.Goals as goal
 
 pub returns-in-Ok-clause-table : goal.returns-in-Ok-clause-table
 returns-in-Ok-clause-table c =
-    let order = rights_in c.args.options.now in
     let profile = c.args.profile.now in
     let style = c.style_among-style.result in
     let rows = string_bytes c.in_ok-rows.rows in
-    let is = c.in_ok-rows.ensures.table in
     let table = heading_in style profile ++ rows in (
       table,
       (
         table,
         [],
-        (
-          style,
-          rows,
-          c.style_among-style.ensures,
-          subst (λ (x : List ℕ). IsTableIn style order profile x rows) is.1 is.2,
-          refl,
-        ),
+        (style, rows, c.style_among-style.ensures, c.in_ok-rows.ensures.table, refl),
         refl,
         sym (append-nil table),
       ),
@@ -33,7 +23,4 @@ returns-in-Ok-clause-table c =
 pub returns-in_err-rows-clause-failure : goal.returns-in_err-rows-clause-failure
 returns-in_err-rows-clause-failure c =
     let same : c.from_residual.result ≡ Err c.in_err-rows.field-0.0 = search rules in
-    rw same (let lacks = c.in_err-rows.ensures.failure in
-    subst (λ (x : List ℕ). LacksTable (rights_in c.args.options.now) c.args.profile.now x c.in_err-rows.field-0.0)
-    lacks.1
-    lacks.2)
+    rw same c.in_err-rows.ensures.failure

@@ -17,7 +17,7 @@ pub loop-profile-preserved : goal.loop-profile-preserved
 unfolding none
 loop-profile-preserved g c =
     let order = rights_in c.args.options.now in
-    let policy = c.args.policy.now in
+    let policy = c.args.read.now.text.now in
     let profiles = c.args.profiles.now in
     let i = c.loop-profile.profile-index in
     let profile = get_or profiles i none in
@@ -35,7 +35,7 @@ pub returns-in-Err-clause-failure : goal.returns-in-Err-clause-failure
 unfolding none
 returns-in-Err-clause-failure g c =
     let order = rights_in c.args.options.now in
-    let policy = c.args.policy.now in
+    let policy = c.args.read.now.text.now in
     let profiles = c.args.profiles.now in
     let i = c.loop-profile.profile-index in
     let profile = get_or profiles i none in
@@ -52,7 +52,7 @@ returns-in-Err-clause-failure g c =
 
 pub returns-clause-tables : goal.returns-clause-tables
 returns-clause-tables g c =
-    subst (λ (l : List (Bor (List ℕ))). AreTables (rights_in c.args.options.now) c.args.policy.now (names l)
+    subst (λ (l : List (Bor (List ℕ))). AreTables (rights_in c.args.options.now) c.args.read.now.text.now (names l)
     (string_bytes c.loop-profile.text))
     (take_all c.loop-profile.profile-index c.args.profiles.now c.loop-profile-test.false)
     c.loop-profile.invariant.so_far

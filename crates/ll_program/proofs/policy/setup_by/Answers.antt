@@ -1,7 +1,7 @@
 use Rattle.std.proofs.Common.{Some, true, ap}
 use Rattle.ll_rights.specs.declared.abi.Abi.{Abi}
 use Rattle.ll_seq.specs.declared.rules.Rules.{Rules}
-use Rattle.ll_program.proofs.policy.by_policy.Goals as goal
+use Rattle.ll_program.proofs.policy.setup_by.Goals as goal
 
 abbrev rules_at : Abi → Rules
 rules_at abi = record { abi = abi; copies = true }

@@ -32,9 +32,9 @@ returns-clause-failure g c = (
 pub returns-in-Ok-clause-setup : goal.returns-in-Ok-clause-setup
 returns-in-Ok-clause-setup g c =
     set_by_plan c.args.options.now c.as_slice.result.now (g.R.Read.remaining c.args.file.now) c.in-Ok.policy
-    c.by_policy.result
+    c.setup_by.result
     (same_text (g.R.Read.remaining c.args.file.now) c.as_slice.result.now c.in_ok-text.text.items
     c.as_slice.ensures.value c.in_ok-text.ensures.text)
     c.if-is_none.ensures (c.in-Ok.ensures.utf8, c.in-Ok.ensures.right)
-    c.in-Ok.ensures.plan c.by_policy.ensures.nodes c.by_policy.ensures.history
-    c.by_policy.ensures.setup
+    c.in-Ok.ensures.plan c.setup_by.ensures.nodes c.setup_by.ensures.history
+    c.setup_by.ensures.setup
