@@ -65,11 +65,18 @@ module _ (texts : Option (List ℕ) → Option (List ℕ)) where
     IsChecked old new r = IfOk r (λ end. (policies : List Source) × All (IsPolicySource texts) policies
         × Writes old new (IsCheckBy order.schedule order told policies (map source_of all) end))
 
-    pub checked_under : (old new : Option (List ℕ)) (r : Result Checked Failure) → IsChecked old new r
+    -- by no policies of sections
+    pub checked_under : (r : Result Checked Failure)
+        → IfOk r (λ end. (written : List ℕ) × IsCheck order told [] (map source_of all) end written)
         → IfOk r (IsCheckedUnder texts order policy)
-    checked_under old new (Err failure) done = tt
-    checked_under old new (Ok end) done =
-        (done.2.0, checked_of done.0 end done.2.0 done.1 done.2.1)
+    checked_under (Err failure) done = tt
+    checked_under (Ok end) done = (
+      map source_of files,
+      done.0,
+      sources_are,
+      subst (λ (x : List NamedText). IsCheck order policy [] (map source_of x) end done.0) same
+          (subst (λ (p : List ℕ). IsCheck order p [] (map source_of all) end done.0) so done.1),
+    )
 
     pub checked_written : (old new : Option (List ℕ)) (r : Result Checked Failure)
         → IsPolicyText texts order.policy policy → IsChecked old new r

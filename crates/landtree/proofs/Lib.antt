@@ -1,6 +1,7 @@
 pub mod Asked
 pub mod CheckedFiles
 pub mod Exported
+pub mod ExportsWhatPasses
 pub mod Fits
 pub mod HintLines
 pub mod Starved

@@ -1,6 +1,6 @@
 //! `check` and `export`, with the files that their words name.
 
-ghost use Rattle.std.specs.Prelude.{◌≡◌, ◌⊎◌, ℕ, true, false, List, Option, None, Some, Err, IfErr, IfOk, IfSome};
+ghost use Rattle.std.specs.Prelude.{◌≡◌, ◌⊎◌, ℕ, true, false, List, [], Option, None, Some, Err, IfErr, IfOk, IfSome};
 ghost use Rattle.std.specs.Prelude.{map, option_map};
 ghost use Rattle.std.specs.List.{All, AllZip};
 ghost use Rattle.ll_program.specs.Sources.{named};
@@ -100,14 +100,16 @@ pub(crate) fn texts_of<'a, S: Sources>(
     Ok(files)
 }
 
+// Returns the number, from 1, of the first line of this file that may name a policy.
+fn policy_line(file: &NamedText<'_>) -> Option<usize> {
+    let mut lines = file.text.as_slice().split(|b| *b == b'\n');
+    let before = lines.position(|line| line.starts_with(b"@policy "))?;
+    Some(before.saturating_add(1))
+}
+
 // Reports whether a line of these files may name a policy.
 fn may_name_policies(files: &[NamedText<'_>]) -> bool {
-    files.iter().any(|file| {
-        file.text
-            .as_slice()
-            .split(|b| *b == b'\n')
-            .any(|line| line.starts_with(b"@policy "))
-    })
+    files.iter().any(|file| policy_line(file).is_some())
 }
 
 // Returns the paths of the policies that sections of these files name for themselves.
@@ -312,7 +314,61 @@ fn export_file<S: Sources, W: Write>(
     }
 }
 
+// Adds where a section of these files first names a policy.
+fn hint_at_policies(files: &[NamedText<'_>], hints: &mut Hints) {
+    for file in files {
+        if let Some(line) = policy_line(file) {
+            hints.of_policy_line(file.name, line);
+            return;
+        }
+    }
+}
+
+// Refuses files of checks in which a section names a policy.
+fn refuse_policies(
+    alloc: Global,
+    files: &[NamedText<'_>],
+    hints: &mut Hints,
+) -> Result<(), Failure> {
+    let paths = policy_paths(alloc, files)?;
+    if paths.is_empty() {
+        return Ok(());
+    }
+    hint_at_policies(files, hints);
+    Err(Failure::CommandLine)
+}
+
+// Checks these files by the given policy alone, not by one of a section. What `check` prints goes to standard error.
+fn check_alone<S: Sources + Wait>(
+    rt: &HostRuntime,
+    sources: &S,
+    options: &CheckOptions,
+    policy: &[u8],
+    files: &[NamedText<'_>],
+    hints: &mut Hints,
+) -> Result<Checked, Failure>
+    ensures { IfOk result (λ end. (written : List ℕ)
+        × IsCheck (checked_in options.now) policy.now [] (map source_of files.now) end written) }
+{
+    let input = CheckInput {
+        options,
+        policy,
+        policies: &[],
+        files,
+    };
+    let runner = SharedRunner { rt: sources };
+    check(
+        &runner,
+        rt.alloc(),
+        &input,
+        &mut rt.stderr(),
+        &mut rt.stderr(),
+        hints,
+    )
+}
+
 // Checks that a profile passes these files, by the policy with this text. What `check` prints goes to standard error.
+// Errors: as of a check, or a section of the files names a policy, and its tests wouldn't try the profile.
 fn check_profile<S: Sources + Wait>(
     rt: &HostRuntime,
     sources: &S,
@@ -323,6 +379,7 @@ fn check_profile<S: Sources + Wait>(
     ensures { IfOk result (IsCheckedUnder (S.texts sources.now) (check_of (exported_in options.now)) policy.now) }
 {
     let files = texts_of(rt, sources, options.checked.as_slice(), hints)?;
+    refuse_policies(rt.alloc(), files.as_slice(), hints)?;
     let Ok(names) = options.checked.clone() else {
         return Err(Failure::NoMemory);
     };
@@ -337,13 +394,7 @@ fn check_profile<S: Sources + Wait>(
         form: Some(ReportForm::Text),
         schedule: false,
     };
-    let input = CheckInput {
-        options: &options,
-        policy,
-        policies: &[],
-        files: files.as_slice(),
-    };
-    check_texts(rt, sources, &input, &mut rt.stderr(), hints)
+    check_alone(rt, sources, &options, policy, files.as_slice(), hints)
 }
 
 // Writes the text of the exported profile, by the policy with this text, if the profile passes the files of checks.

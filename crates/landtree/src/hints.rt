@@ -455,6 +455,15 @@ impl Hints {
         }
     }
 
+    /// Adds that this line of a file of checks names a policy, which the checks of an export don't take.
+    pub fn of_policy_line(&mut self, file: &str, number: usize) {
+        if let Ok(told) = format!(in self.alloc;
+            "{file}:{number}:1: an export is checked under its own profile alone"
+        ) {
+            let _ = self.push(told.as_str());
+        }
+    }
+
     /// Adds where in this line of a script, which spells no command, something else was expected, and what.
     pub fn of_bad_line(&mut self, of: LinesOf, script: &str, text: &[u8], number: u64) {
         if self.are_missing() {

@@ -7,6 +7,7 @@ mod commands;
 mod given;
 mod hints;
 mod history_line;
+mod laws;
 mod lessons;
 mod misfits;
 mod reasons;

@@ -1,5 +1,5 @@
 -- How the program's check ends. own
-use Rattle.std.specs.Prelude.{⊤, ◌≡◌, ◌⊎◌, ℕ, Bool, true, false, List, Option, Some, Result, Ok, Err, IfSome}
+use Rattle.std.specs.Prelude.{⊤, ◌≡◌, ◌⊎◌, ℕ, Bool, true, false, List, [], Option, Some, Result, Ok, Err, IfSome}
 use Rattle.std.specs.List.{All, AllZip}
 use Rattle.ll_program.specs.Options.{CheckOrder}
 use Rattle.ll_program.specs.declared.conclusion.Conclusion.{Conclusion}
@@ -41,10 +41,13 @@ IsCheckOf texts order policy end written =
     (policies sources : List Source) × All (IsPolicySource texts) policies × AllZip (IsSource texts) order.files sources
     × IsCheckBy order.schedule order policy policies sources end written
 
--- the result of such a check
+-- the result of a check of the files that the words name, by the policy and under the profile of the words alone: no
+-- section has a policy of its own
 abbrev pub IsCheckedUnder : (texts : Option (List ℕ) → Option (List ℕ)) → CheckOrder → (policy : List ℕ) → Checked
     → Type 0
-IsCheckedUnder texts order policy end = (written : List ℕ) × IsCheckOf texts order policy end written
+IsCheckedUnder texts order policy end =
+    (sources : List Source) × (written : List ℕ) × AllZip (IsSource texts) order.files sources
+    × IsCheck order policy [] sources end written
 
 -- the text of the policy that the words name, if one is named and its text is known
 abbrev pub IsPolicyText : (texts : Option (List ℕ) → Option (List ℕ)) → (named : Option (List ℕ)) → List ℕ → Type 0
