@@ -1,13 +1,13 @@
 -- Where histories are cut.
 use Rattle.std.specs.Prelude.{⊤, ◌≡◌, ◌≢◌, ◌<◌, ◌≤◌, ◌+◌, ◌-◌, ◌==◌, ◌&&◌, ℕ, Bool, true, false, List, [], ◌∷◌, ◌++◌}
-use Rattle.std.specs.Prelude.{is_some, length, drop, take, map, refl}
+use Rattle.std.specs.Prelude.{Some, is_some, length, drop, take, map, refl}
 use Rattle.std.specs.Cmp.{nat_cmp_total}
 use Rattle.std.specs.FinMap.{nat_cmp-IsAntisymmetric}
 use Rattle.std.proofs.Common.{ap, arith, length-append, subst, sym, ◌∙◌}
 use Rattle.std.proofs.lemmas.Bool.{eqb-true}
 use Rattle.std.proofs.lemmas.List.{take-append-drop, take-append-le, take_more}
 use Rattle.std.proofs.lemmas.Option.{get_or_from_slice_get, slice_get_within}
-use Rattle.ll_rights.specs.Map.{has}
+use Rattle.ll_rights.specs.Map.{get, has}
 use Rattle.ll_rights.specs.declared.errno.Errno.{Errno}
 use Rattle.ll_rights.proofs.Maps.{get-insert_same}
 use Rattle.ll_decide.specs.declared.denial.Denial.{Denial}
@@ -32,7 +32,7 @@ both : (a b : Bool) → (a && b) ≡ true → (a ≡ true) × (b ≡ true)
 both true b e = (refl, e)
 both false b e = absurd (cc e)
 
--- ---- Who connects is there
+-- ---- Who connects is new
 
 abbrev NoneDone : List Reply → Type 0
 NoneDone [] = ⊤
@@ -64,20 +64,21 @@ none_of t n r w e d k l =
     (refused n)) (refused r)) (refused w)) (refused e)) (denied d)) (refused k)) (refused l)
 
 connected_by : (s : State) (q fresh : ℕ) (call : Call) → is_connect call ≡ true → (step s q call fresh).0 ≡ Done
-    → has (step s q call fresh).1.clients q ≡ true
+    → get (step s q call fresh).1.clients q ≡ Some new_client
 connected_by s q fresh Connect is done =
     let c = client_of s q in
-    ap (λ (t : State). has t.clients q)
+    ap (λ (t : State). get t.clients q)
     (does s (refusals s c Connect) (effect s q c (first_path Connect) (second_path Connect) fresh Connect)
     (none_of (text_refusals Connect) (number_refusals c Connect)
     (relation_refusals Connect (first_path Connect) (second_path Connect)) (walk_refusals s Connect)
     (stages s new_client (first_path Connect) (second_path Connect) Connect).existence (call_denials s c Connect)
     (stages s c (first_path Connect) (second_path Connect) Connect).kinds
     (stages s c (first_path Connect) (second_path Connect) Connect).limits) done)
-    ∙ ap is_some (get-insert_same nat_cmp_total nat_cmp-IsAntisymmetric s.clients q new_client)
+    ∙ get-insert_same nat_cmp_total nat_cmp-IsAntisymmetric s.clients q new_client
 connected_by s q fresh _ is done = absurd (cc is)
 
-connected : (s : State) (e : Entry) → MayStand s e → is_connect e.call ≡ true → has (after s e).clients e.client ≡ true
+connected : (s : State) (e : Entry) → MayStand s e → is_connect e.call ≡ true
+    → get (after s e).clients e.client ≡ Some new_client
 connected s e stands is =
     connected_by s e.client (fresh_of e.reply) e.call is (stands.answered ∙ stands.connected is)
 
@@ -93,17 +94,21 @@ module _ (early es : List Entry) (client : ℕ) (begins : BeginsSo early client 
       sym begins.alike ∙ ap (λ k. take k es) again ∙ take_more es (n - 1) last within
       ∙ ap (λ x. take (n - 1) es ++ x ∷ []) (get_or_from_slice_get es (n - 1) last last begins.cut.is)
 
-  pub there_at_cut : (s : State) → IsLegal s early → has (state_after s early).clients client ≡ true
-  there_at_cut s legal =
+  -- so it is new there
+  pub new_at_cut : (s : State) → IsLegal s early → get (state_after s early).clients client ≡ Some new_client
+  new_at_cut s legal =
       let front = take (length early - 1) es in
       let e = begins.cut.last in
       let is = both (e.client == client) (is_connect e.call) begins.cut.connects in
       let stands : MayStand (state_after s front) e =
       (legal_late s front (e ∷ []) (subst (IsLegal s) ends_so legal)).0 in
-      ap (λ (l : List Entry). has (state_after s l).clients client) ends_so
-      ∙ ap (λ (t : State). has t.clients client) (after_push s front e)
-      ∙ ap (has (after (state_after s front) e).clients) (sym (eqb-true e.client client is.0))
+      ap (λ (l : List Entry). get (state_after s l).clients client) ends_so
+      ∙ ap (λ (t : State). get t.clients client) (after_push s front e)
+      ∙ ap (get (after (state_after s front) e).clients) (sym (eqb-true e.client client is.0))
       ∙ connected (state_after s front) e stands is.1
+
+  pub there_at_cut : (s : State) → IsLegal s early → has (state_after s early).clients client ≡ true
+  there_at_cut s legal = ap is_some (new_at_cut s legal)
 
   -- the entries behind the cut
   pub cut_whole : es ≡ early ++ drop (length early) es

@@ -1,14 +1,18 @@
 -- What is learned from parts at one cut.
-use Rattle.std.specs.Prelude.{◌≡◌, ◌↔◌, ◌<◌, ◌≤◌, ℕ, true, None, IsTrue, List, Contains, length, map, refl}
+use Rattle.std.specs.Prelude.{◌≡◌, ◌↔◌, ◌<◌, ◌≤◌, ℕ, true, None, Some, All, IsTrue, List, [], ◌∷◌, Contains, length}
+use Rattle.std.specs.Prelude.{map, refl}
 use Rattle.std.specs.List.{list_any}
-use Rattle.std.proofs.Common.{ap, inl, inr, sym, subst, ◌∙◌}
+use Rattle.std.proofs.Common.{ap, arith, inl, inr, sym, subst, ◌∙◌}
 use Rattle.std.proofs.lemmas.List.Elements.{All-contains, All-map}
 use Rattle.ll_rights.specs.declared.access.Access.{Access}
+use Rattle.ll_rights.specs.Access.{holds}
+use Rattle.ll_rights.specs.Map.{get}
 use Rattle.ll_rules.specs.Layer.{Layer, grants_on}
 use Rattle.ll_seq.specs.declared.reply.Entry.{Entry}
 use Rattle.ll_seq.specs.declared.rules.Rules.{Rules}
+use Rattle.ll_seq.specs.CallParts.{is_relevant}
 use Rattle.ll_seq.specs.History.{IsLegal, state_after}
-use Rattle.ll_seq.specs.State.{State, start}
+use Rattle.ll_seq.specs.State.{State, kind_of, new_client, start}
 use Rattle.ll_learn.specs.declared.draft.Draft.{Draft}
 use Rattle.ll_learn.specs.declared.fault.Unlearned.{Unlearned}
 use Rattle.ll_learn.specs.declared.fault.Unlearned.TheVariants as fault
@@ -20,13 +24,16 @@ use Rattle.ll_learn.specs.Bound.{BeginAt, Part, PassesEach, ReachesNoMore}
 use Rattle.ll_learn.specs.Charges.{AreNeedsOf, IsScopeAt}
 use Rattle.ll_learn.specs.Draft.{IsInScope, IsOf}
 use Rattle.ll_learn.specs.Framed.{IsFrame, IsUnprofiled, MeetsNeeds}
-use Rattle.ll_learn.specs.Learned.{AreCut, IsCalled, IsLearned, IsOpening, IsUnlearned, IsWithinAim, may_hold}
+use Rattle.ll_learn.specs.Learned.{AreCut, BeginsSo, IsCalled, IsLearned, IsOpening, IsUnlearned, IsWithinAim, may_hold}
 use Rattle.ll_learn.specs.Learned.{part_behind}
 use Rattle.ll_learn.specs.Lesson.{IsCalledLeast, IsOfDraft, IsOfProfile, gives}
 use Rattle.ll_learn.specs.Needs.{Meets}
 use Rattle.ll_learn.specs.Preface.{AreGathered}
 use Rattle.ll_learn.specs.Sites.{IsLayerOf, IsReached}
+use Rattle.ll_learn.proofs.AllSites.{reached_tree}
+use Rattle.ll_learn.proofs.Cuts.{new_at_cut}
 use Rattle.ll_learn.proofs.DraftReach.{draft_is_least}
+use Rattle.ll_learn.proofs.Enforcements.{enforced}
 use Rattle.ll_learn.proofs.MendedReach.{mended_is_least}
 use Rattle.ll_learn.proofs.SameReplies.{same_replies}
 use Rattle.ll_learn.proofs.ScopeLayers.{layer_in, layer_spelt, scope_at}
@@ -131,6 +138,7 @@ module _ (rules : Rules) (room : ℕ) (early : List Entry) (legal : IsLegal (sta
       within = λ layer. (in_aim layer, in_scope layer);
       beneath = framed.beneath;
       rules = is.drafted.rules;
+      derived = is.drafted.derived;
       called = is_called;
     }
 
@@ -158,6 +166,27 @@ module _ (rules : Rules) (room : ℕ) (early : List Entry) (legal : IsLegal (sta
               (in_scope layer within) passes
         ]
 
+    -- what rules grant is handled, and applies to their nodes
+    applies : (inode right : ℕ) → right < 15 → list_any (gives inode right) profile.rules.items ≡ true
+        → (holds profile.handled.0 right ≡ true) × IsTrue (is_relevant (kind_of s inode) right)
+    applies inode right known given =
+        let may = is.held inode right known given in
+        let at_cut : IsScopeAt s frame.scope =
+        scope_at s reached framed.held frame.sites framed.sites frame.scope framed.may in (
+          ap (λ (a : Access). holds a.0 right) is.handled ∙ framed.scope.handled inode right known may,
+          (at_cut inode right known may).1,
+        )
+
+    -- the client is new at the cut
+    is_new : 1 ≤ length hs → get s.clients aim.client ≡ Some new_client
+    is_new some = by hs some gathered.begin
+      where
+        by : (all : List (List Entry)) → 1 ≤ length all → All (BeginsSo early aim.client) all
+            → get s.clients aim.client ≡ Some new_client
+        by [] some begin = absurd (omega arith)
+        by (es ∷ all) some begin =
+            new_at_cut early es aim.client (begin 0 es (omega arith)) (start rules room) legal
+
     pub learned : 1 ≤ length hs → IsLearned (start rules room) hs aim profile
     learned some = record {
       early = early;
@@ -170,10 +199,13 @@ module _ (rules : Rules) (room : ℕ) (early : List Entry) (legal : IsLegal (sta
         held = is_held;
         named = is.named s framed.held framed.sites;
         once = is.once s framed.held framed.sites;
+        within = λ layer of. in_aim layer (is.within layer of);
         passes = λ layer of. passing layer (is.meets layer of);
         needed = λ layer of inode right known has less without passes.
             is.needed layer of inode right known has less without (meeting less passes);
         least = least;
         called = called;
+        enforced = enforced s (reached_tree s reached) aim.client (is_new some) profile
+            (is.named s framed.held framed.sites) applies;
       };
     }

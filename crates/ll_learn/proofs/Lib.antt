@@ -32,6 +32,8 @@ pub mod DraftReach
 pub mod OutsideMoves
 pub mod Cuts
 pub mod ManyParts
+pub mod Enforcements
+pub mod SameLevel
 pub mod Frames
 pub mod Undeniable
 pub mod Hindrances

@@ -1,7 +1,11 @@
 -- What a saved history teaches.
-use Rattle.std.proofs.Common.{◌≡◌, ℕ, List, [], ◌∷◌, Result, Ok, Err}
+use Rattle.std.proofs.Common.{◌≡◌, ◌∙◌, ℕ, List, [], ◌∷◌, Result, Ok, Err, ap, arith}
 use Rattle.std.specs.Prelude.{IfOk}
+use Rattle.ll_rights.specs.declared.access.Access.{Access}
+use Rattle.ll_rules.specs.Rules.{create_refusals}
 use Rattle.ll_seq.specs.declared.reply.Entry.{Entry}
+use Rattle.ll_seq.specs.declared.rules.Rules.{Rules}
+use Rattle.ll_wire.specs.Entries.{version_rules}
 use Rattle.ll_wire.specs.declared.header.Header.{Header}
 use Rattle.ll_audit.specs.Saved.{opened}
 use Rattle.ll_learn.specs.declared.learned.Aim.{Aim}
@@ -11,6 +15,7 @@ use Rattle.ll_learn.specs.declared.saved_lesson.Learned.TheVariants as learned
 use Rattle.ll_learn.specs.declared.saved_lesson.SavedLesson.{SavedLesson}
 use Rattle.ll_learn.specs.Learned.{IsCut, IsLearned}
 use Rattle.ll_learn.specs.SavedLesson.{IsLearnedBy, IsTold, Teaches}
+use Rattle.ll_learn.proofs.SameLevel.{level_accepted, same_rules}
 
 module _ (lesson : SavedLesson) (h : Header) (es : List Entry) (aim : Aim) where
   -- what is told of a profile that is learned from the history is learned of its text
@@ -27,6 +32,13 @@ module _ (lesson : SavedLesson) (h : Header) (es : List Entry) (aim : Aim) where
     is_cut = is;
     learned = learned';
     few = told.0;
+    enforced = λ most. let few = told.0 in learned'.learned.enforced (
+      ap (λ (r : Rules). create_refusals r.abi profile.handled.0) (same_rules (opened h) learned'.early)
+          ∙ ap (create_refusals (version_rules h.version).abi)
+          (ap (λ (a : Access). a.0) learned'.learned.handled ∙ teaches.aimed.handled)
+          ∙ level_accepted (version_rules h.version).abi,
+      omega (arith, few, most),
+    );
     is = told.1;
   }
   taught cut profile is learned' (Ok (learned.BadLine line)) told = absurd told

@@ -19,10 +19,12 @@ use Rattle.ll_learn.specs.declared.needs.Needs.{Needs}
 use Rattle.ll_learn.specs.declared.profile.LearnedProfile.{LearnedProfile}
 use Rattle.ll_learn.specs.Bound.{Part, PassesEach, ReachesNoMore}
 use Rattle.ll_learn.specs.Draft.{IsInScope}
+use Rattle.ll_learn.specs.Enforcement.{FitsRuleset, IsEnforced}
 use Rattle.ll_learn.specs.Faults.{IsFirstDenied, IsFirstFull}
 use Rattle.ll_learn.specs.Gathered.{AreNeedsOfAll}
 use Rattle.ll_learn.specs.Least.{AreNeeded}
 use Rattle.ll_learn.specs.Lesson.{AreNamed, AreOnce, AreRulesOf, IsCalledLeast, IsOfProfile, gives}
+use Rattle.ll_learn.specs.Mended.{AreDerived}
 use Rattle.ll_learn.specs.PassedCalls.{IsLearnable}
 use Rattle.ll_learn.specs.Sites.{IsLayerOf}
 
@@ -70,8 +72,8 @@ abbrev pub IsWithinAim : State → Aim → Layer → Type 0
 IsWithinAim s aim layer = (held : ℕ) → ((right : ℕ) → right < 15 → holds held right ≡ may_hold aim right) →
     IsLayerOf s aim.handled.0 held layer
 
--- When a profile is called least. The needs are those of the parts, the draft has the profile's rules, and the scope's
--- layers are those within the aim
+-- When a profile is called least. The needs are those of the parts, the draft has the profile's rules, each right of
+-- which is asked or mended, and the scope's layers are those within the aim
 pub record IsCalled (s : State) (parts : List Part) (aim : Aim) (profile : LearnedProfile) : Type 0 where
   pub needs : Needs
   pub scope : Scope
@@ -80,10 +82,12 @@ pub record IsCalled (s : State) (parts : List Part) (aim : Aim) (profile : Learn
   pub within : (layer : Layer) → IsInScope scope layer ↔ IsWithinAim s aim layer
   pub beneath : map Some scope.beneath.items ≡ map (named s) aim.beneath.now
   pub rules : AreRulesOf draft profile.rules.items
+  pub derived : AreDerived scope needs draft
   pub called : IsTrue profile.is_least ↔ IsCalledLeast s scope needs draft
 
 -- Each part passes under the profile's layer. Without any one right of any one of its rules, some part doesn't. If the
--- profile is least, no layer within the aim under which each part passes reaches less at the cut. called: when it is
+-- profile is least, no layer within the aim under which each part passes reaches less at the cut. called: when it is.
+-- enforced: if a ruleset takes so much, the profile's calls are accepted, and give the client this layer
 pub record IsLearnedAt (s : State) (parts : List Part) (aim : Aim) (profile : LearnedProfile) : Type 0 where
   pub learnable : (part : Part) → Contains parts part → IsLearnable part.cut part.client part.entries
   pub handled : profile.handled ≡ aim.handled
@@ -91,11 +95,13 @@ pub record IsLearnedAt (s : State) (parts : List Part) (aim : Aim) (profile : Le
       → may_hold aim right ≡ true
   pub named : AreNamed s profile.rules.items
   pub once : AreOnce profile.rules.items
+  pub within : (layer : Layer) → IsOfProfile profile layer → IsWithinAim s aim layer
   pub passes : (layer : Layer) → IsOfProfile profile layer → PassesEach parts layer
   pub needed : (layer : Layer) → IsOfProfile profile layer → AreNeeded (PassesEach parts) layer
   pub least : profile.is_least ≡ true → (least : Layer) → IsOfProfile profile least
       → (layer : Layer) → IsWithinAim s aim layer → PassesEach parts layer → ReachesNoMore s least layer
   pub called : IsCalled s parts aim profile
+  pub enforced : FitsRuleset s profile → IsEnforced s aim.client profile
 
 -- after the client's connect, in a tree that began in this state
 pub record IsLearned (s : State) (histories : List (List Entry)) (aim : Aim) (profile : LearnedProfile) : Type 0 where

@@ -1,5 +1,6 @@
 -- The rules of learned profiles, and which layers they spell. own
-use Rattle.std.specs.Prelude.{◌≡◌, ◌⊎◌, ◌<◌, ◌≤◌, ◌==◌, ◌&&◌, ◌↔◌, ℕ, Bool, true, List, [], None, Some, All, IsTrue}
+use Rattle.std.specs.Prelude.{◌≡◌, ◌⊎◌, ◌<◌, ◌≤◌, ◌^◌, ◌==◌, ◌&&◌, ◌↔◌, ℕ, Bool, true, List, [], None, Some, All}
+use Rattle.std.specs.Prelude.{IsTrue}
 use Rattle.std.specs.List.{count_by, list_any}
 use Rattle.ll_rights.specs.declared.access.Access.{Access}
 use Rattle.ll_rights.specs.Access.{holds}
@@ -19,7 +20,7 @@ use Rattle.ll_learn.specs.declared.profile.LearnedProfile.{LearnedProfile}
 use Rattle.ll_learn.specs.declared.profile.LearnedRule.{LearnedRule}
 use Rattle.ll_learn.specs.Draft.{IsCharged, IsNeed, has, may_have, right_at, without}
 use Rattle.ll_learn.specs.Mended.{AreDerived, AreSiteChains, IsStill, KnowEach}
-use Rattle.ll_learn.specs.Sites.{IsAmong}
+use Rattle.ll_learn.specs.Sites.{IsAmong, IsSpelt}
 
 -- ---- Rules on nodes
 
@@ -32,10 +33,10 @@ abbrev pub AreRulesOf : Draft → List LearnedRule → Type 0
 AreRulesOf draft rules =
     (inode right : ℕ) → right < 15 → list_any (gives inode right) rules ≡ has draft right inode
 
--- each rule has a right, and is on the node that its path leads to
+-- Each rule has a right, and no unknown one. Its path, which some word spells, leads to the node that it is on
 abbrev pub AreNamed : State → List LearnedRule → Type 0
-AreNamed s rules =
-    All (λ (rule : LearnedRule). (1 ≤ rule.rights.0) × (named s rule.path ≡ Some rule.inode)) rules
+AreNamed s rules = All (λ (rule : LearnedRule). (1 ≤ rule.rights.0) × (rule.rights.0 < 2 ^ 15)
+    × IsSpelt rule.path × (named s rule.path ≡ Some rule.inode)) rules
 
 -- the rule is on this node
 abbrev pub is_on : ℕ → LearnedRule → Bool

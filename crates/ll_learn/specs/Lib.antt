@@ -13,6 +13,7 @@ pub mod WatchedClients
 pub mod Sites
 pub mod Profile
 pub mod Lesson
+pub mod Enforcement
 pub mod Gathered
 pub mod Learned
 pub mod Preface

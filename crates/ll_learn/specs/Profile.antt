@@ -19,11 +19,13 @@ toml_byte b = if (b == 34) || (b == 92) then 92 ∷ b ∷ [] else b ∷ []
 abbrev pub toml_string : List ℕ → List ℕ
 toml_string text = 34 ∷ (flat_map toml_byte text ++ 34 ∷ [])
 
--- what is promised of the profile
+abbrev pub least_line : List ℕ
+least_line =
+    codes "# least: at the start, each layer over these rights that lets these calls pass grants all this one grants\n"
+
+-- What is promised of the profile. These rights are those that it handles, and the start is the cut
 abbrev pub head_line : Bool → List ℕ
-head_line is_least =
-    if is_least then codes "# least: each layer under which these calls pass grants all that this one grants\n"
-    else codes "# passes, and no single right can be left out\n"
+head_line is_least = if is_least then least_line else codes "# passes, and no single right can be left out\n"
 
 -- the comment on an entry, if there is one. note: the line for it
 abbrev pub comment : (Origin → List ℕ) → Option Origin → List ℕ

@@ -3,9 +3,10 @@ use Rattle.std.specs.Prelude.{◌≡◌, ◌<◌, ◌≤◌, ◌+◌, ◌-◌, �
 use Rattle.std.specs.Prelude.{filter, length, map, option_map, slice_get, string_bytes, unwrap_or}
 use Rattle.std.specs.List.{concat}
 use Rattle.std.specs.Option.{option_map_or}
+use Rattle.ll_rights.specs.declared.limits.TheConstants.{RULESET_INODES}
 use Rattle.ll_rights.specs.Access.{known_set}
 use Rattle.ll_seq.specs.declared.reply.Entry.{Entry}
-use Rattle.ll_seq.specs.History.{is_connect}
+use Rattle.ll_seq.specs.History.{is_connect, state_after}
 use Rattle.ll_wire.specs.Entries.{version_rules}
 use Rattle.ll_wire.specs.Grammar.{call_tokens, line_of}
 use Rattle.ll_wire.specs.Pieces.{pieces}
@@ -19,6 +20,7 @@ use Rattle.ll_learn.specs.declared.profile.LearnedProfile.{LearnedProfile}
 use Rattle.ll_learn.specs.declared.saved_lesson.Learned.{Learned}
 use Rattle.ll_learn.specs.declared.saved_lesson.Learned.TheVariants as learned
 use Rattle.ll_learn.specs.declared.saved_lesson.SavedLesson.{SavedLesson}
+use Rattle.ll_learn.specs.Enforcement.{IsEnforced}
 use Rattle.ll_learn.specs.Learned.{IsCut, IsLearned, IsUnlearned}
 use Rattle.ll_learn.specs.Profile.{profile_text}
 
@@ -70,7 +72,8 @@ IsTold lesson es cut profile (learned.Nothing fault) = ⊥
 IsTold lesson es cut profile (learned.Many rules) =
     (rules ≡ length profile.rules.items) × (lesson.most < rules)
 
--- the text is of a profile that is learned from the history with this text
+-- The text is of a profile that is learned from the history with this text. After the client's connect a tree accepts
+-- the profile's calls
 pub record IsProfileText (lesson : SavedLesson) (text written : List ℕ) : Type 0 where
   pub header : Header
   pub entries : List Entry
@@ -81,6 +84,8 @@ pub record IsProfileText (lesson : SavedLesson) (text written : List ℕ) : Type
   pub is_cut : IsCut entries aim.client cut
   pub learned : IsLearned (opened header) (entries ∷ []) aim profile
   pub few : length profile.rules.items ≤ lesson.most
+  pub enforced : lesson.most ≤ RULESET_INODES
+      → IsEnforced (state_after (opened header) learned.early) aim.client profile
   pub is : written ≡ profile_text (entry_note cut entries) lesson.name.now profile
 
 -- nothing is learned from it, for this reason

@@ -1,4 +1,4 @@
-//! The least layer under which a program does what it did.
+//! A layer under which a program does what it did, with no right to spare.
 #![tactic(auto)]
 
 mod alike;

@@ -40,7 +40,7 @@ pub trait Notes {
 /// A profile of one layer.
 #[derive(Drop)]
 pub struct LearnedProfile {
-    /// Whether each layer under which the calls pass grants everything that this one grants.
+    /// Whether each layer over the same rights under which the calls pass grants at the cut all that this one grants.
     pub is_least: bool,
     pub handled: Access,
     pub rules: Vec<LearnedRule>,
@@ -74,7 +74,7 @@ fn head_line(is_least: bool) -> &'static str
     ensures { result.now ≡ head_line is_least }
 {
     if is_least {
-        "# least: each layer under which these calls pass grants all that this one grants\n"
+        "# least: at the start, each layer over these rights that lets these calls pass grants all this one grants\n"
     } else {
         "# passes, and no single right can be left out\n"
     }

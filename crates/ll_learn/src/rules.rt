@@ -9,7 +9,7 @@ ghost use Rattle.ll_seq.specs.Tree.{named};
 ghost use Rattle.ll_learn.specs.Draft.{has};
 ghost use Rattle.ll_learn.specs.Lesson.{AreNamed, AreOnce, AreRulesOf, CanHold, IsNeededBy, gives, is_on};
 ghost use Rattle.ll_learn.specs.Lesson.{origin_of};
-ghost use Rattle.ll_learn.specs.Sites.{AreSites};
+ghost use Rattle.ll_learn.specs.Sites.{AreSites, IsSpelt};
 
 use crate::draft::{Draft, Need};
 use crate::needs::{Needs, Origin};
@@ -145,7 +145,7 @@ fn add_rule(
     ensures rules { OnOk result ((inode right : ℕ) → right < 15 → list_any (gives inode right) rules.new.items
         ≡ (list_any (gives inode right) rules.old.items
         || ((site.now.inode == inode) && has draft.now right inode))) }
-    ensures named { OnOk result ((s : State) → named s site.now.path ≡ Some site.now.inode
+    ensures named { OnOk result ((s : State) → IsSpelt site.now.path → named s site.now.path ≡ Some site.now.inode
         → AreNamed s rules.old.items → AreNamed s rules.new.items) }
     ensures once { OnOk result ((inode : ℕ) → count_by (is_on inode) rules.new.items
         ≤ count_by (is_on inode) rules.old.items + (if site.now.inode == inode then 1 else 0)) }

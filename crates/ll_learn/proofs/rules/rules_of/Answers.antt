@@ -5,7 +5,7 @@ use Rattle.std.proofs.lemmas.List.{take_all}
 use Rattle.ll_seq.specs.Tree.{named}
 use Rattle.ll_learn.specs.declared.site.Site.{Site}
 use Rattle.ll_learn.specs.Draft.{has}
-use Rattle.ll_learn.specs.Sites.{is_of}
+use Rattle.ll_learn.specs.Sites.{IsSpelt, is_of}
 use Rattle.ll_learn.proofs.Given.{any_at, any_more, count_more, met_at, parted}
 use Rattle.ll_learn.proofs.rules.rules_of.Goals as goal
 
@@ -27,10 +27,11 @@ loop-site-preserved c =
           ∙ parted (list_any p (take i rows)) (site.inode == inode) (has draft right inode)
           ∙ ap (λ b. b && has draft right inode) (sym (any_more p rows i site lt is));
       named = λ s all are.
-          let each = (are.each i site lt).named in
+          let each = are.each i site lt in
+          let spelt : IsSpelt site.path = subst (λ (x : Site). IsSpelt x.path) (sym is) each.spelt in
           let here : named s site.path ≡ Some site.inode =
-          subst (λ (x : Site). named s x.path ≡ Some x.inode) (sym is) each in
-          c.in_ok-add_rule.ensures.named s here (c.loop-site.invariant.named s all are);
+          subst (λ (x : Site). named s x.path ≡ Some x.inode) (sym is) each.named in
+          c.in_ok-add_rule.ensures.named s spelt here (c.loop-site.invariant.named s all are);
       once = λ inode.
           let grown = c.in_ok-add_rule.ensures.once inode in
           let so_far = c.loop-site.invariant.once inode in
