@@ -57,12 +57,12 @@ uint32_t landtree_policy(const uint8_t *policy, size_t policy_length,
 uint32_t landtree_audit(const uint8_t *history, size_t history_length,
                         uint8_t *out, size_t capacity, size_t *length);
 
-/* Learns the least profile for what a client did in a saved history. The client 0 is the second that connects, or the
-   only one. `most` is the most rules, 1 to 256, or 0 for 256. `never` has rights that no rule may grant, with commas
-   between, in their order, or is empty. `beneath` has a directory in each line, whose rule grants what is needed below
-   it, or is empty. `name` is the profile's, of 1 to 32 of `a` to `z`, `0` to `9` and `-`; an empty one stands for
-   `learned`. The answer is the profile, to be put behind the nodes of a policy; with LANDTREE_ENDED one line on why
-   nothing is learned: the history's line, if it is about one, and what is wrong there. */
+/* Learns a profile for what a client did in a saved history. It has no right to spare. The client 0 is the second that
+   connects, or the only one. `most` is the most rules, 1 to 256, or 0 for 256. `never` has rights that no rule may
+   grant, with commas between, in their order, or is empty. `beneath` has a directory in each line, whose rule grants
+   what is needed below it, or is empty. `name` is the profile's, of 1 to 32 of `a` to `z`, `0` to `9` and `-`; an empty
+   one stands for `learned`. The answer is the profile, to be put behind the nodes of a policy; with LANDTREE_ENDED one
+   line on why nothing is learned: the history's line, if it is about one, and what is wrong there. */
 uint32_t landtree_learn(uint64_t client, size_t most,
                         const uint8_t *never, size_t never_length,
                         const uint8_t *beneath, size_t beneath_length,

@@ -128,7 +128,8 @@ def tour_lines(came: Tour) -> List[str]:
     """Returns what is said of a tour."""
     rules = came.learned.profile.count(".layer.rule]]")
     is_least = came.is_well and came.learned.is_least
-    least = ", and each layer that lets it run so grants all that this one grants" if is_least else ""
+    all_grant = "at the start each layer over these rights that lets it run so grants all that this one grants"
+    least = f", and {all_grant}" if is_least else ""
     lines = [*came.converted.told(), *(it.strip() for it in came.learned.hints.splitlines())]
     lines += [f"it would be denied now: {it}" for it in came.denied] + came.differ + came.unknown
     first, second = shell_status(came.recorded.status or 0), shell_status(came.status)

@@ -119,7 +119,7 @@ class Learned:
 
     @property
     def is_least(self) -> bool:
-        """Says whether the program claims that each layer which lets the checks pass grants all that this one does."""
+        """Says whether each layer over these rights that lets the checks pass grants at the start all this one does."""
         return LEAST.match(self.profile) is not None
 
 
@@ -174,7 +174,7 @@ class Commands:
         return exported_of(self.run("export", *words))
 
     def learn(self, files: Iterable[File], nodes: File, options: LearnOptions = LearnOptions()) -> Learned:
-        """Returns the least profile under which all tests of files of checks pass, on a policy's nodes.
+        """Returns a profile, with no right to spare, under which all tests of files of checks pass on a policy's nodes.
 
         Raises `ProgramFault` if there is none. A test that isn't answered as it says has one line there.
         """
@@ -182,7 +182,7 @@ class Commands:
         return self.learned(*how, *options.words(), "--", *(os.fspath(it) for it in files))
 
     def learn_history(self, history: File, options: LearnOptions = LearnOptions()) -> Learned:
-        """Returns the least profile under which the calls of a saved history get the same replies."""
+        """Returns a profile, with no right to spare, under which the calls of a saved history get the same replies."""
         return self.learned(f"--history={os.fspath(history)}", *options.words())
 
     def learned(self, *words: str) -> Learned:

@@ -103,8 +103,8 @@ class Library:
         return self._ask(self._library.landtree_audit, [], [encoded(history)])
 
     def learn(self, history: Text, options: LearnOptions = LearnOptions(), client: int = 0) -> Answer:
-        """Learns the least profile for what a client did in a saved history: by default the second that connects, or
-        the only one. Where nothing is learned, the answer has one line on why."""
+        """Learns a profile with no right to spare for what a client did in a saved history: by default the second that
+        connects, or the only one. Where nothing is learned, the answer has one line on why."""
         if options.most == 0:
             raise ValueError(f"the most rules are 1 to {LEARNED_RULES}")  # The library takes 0 for the most.
         never, beneath = Rights.of(options.never), "\n".join(options.beneath)

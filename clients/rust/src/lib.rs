@@ -218,8 +218,8 @@ pub fn audit(history: &[u8]) -> Result<Answer, Fault> {
     })
 }
 
-/// Learns the least profile for what a client did in a saved history. Where nothing is learned, the answer has one line
-/// on why.
+/// Learns a profile for what a client did in a saved history, with no right to spare. Where nothing is learned, the
+/// answer has one line on why.
 pub fn learn(lesson: Lesson<'_>, history: &[u8]) -> Result<Answer, Fault> {
     let Lesson { client, most, never, beneath, name } = lesson;
     let beneath = beneath.join("\n");
