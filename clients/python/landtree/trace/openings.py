@@ -64,13 +64,14 @@ def opening(
         return
     returned = returned_of(call)
     if returned is not None and is_no_file(returned):
-        process.files.put(returned.number or 0, None)  # A pipe or a socket: nothing is asked.
+        forget(call, process)  # A pipe or a socket: nothing is asked.
         return
     guess, why = guessed(trace, call, process, place, flags)
     path = true_path(returned, flags)
     true = trace.at_path(path) if path else None
     if guess is None and true is None:
         trace.note(call, f"it isn't known which file {call.name} has opened: {', '.join(call.arguments[:2])}{why}")
+        forget(call, process)
     elif guess is None or path is None or trace.tree.path_of(guess) == path:
         open_spot(trace, call, process, guess or true, flags)
     else:
@@ -109,6 +110,7 @@ def guessed(
 def open_spot(trace: Trace, call: Call, process: Process, spot: Optional[Spot], flags: Set[str]) -> None:
     """Takes an open of what is at a spot, or of a file that it makes there."""
     if spot is None:
+        forget(call, process)
         return
     if "O_PATH" in flags:
         remember(call, process, Opened(trace.tree.path_of(spot), spot.node, spot=spot), flags)
@@ -163,6 +165,12 @@ def open_nameless(trace: Trace, call: Call, process: Process, spot: Spot, flags:
 def remember(call: Call, process: Process, opened: Opened, flags: Set[str]) -> None:
     if call.is_done and call.result is not None:
         process.files.put(call.result, opened, "O_CLOEXEC" in flags)
+
+
+def forget(call: Call, process: Process) -> None:
+    """Has the new descriptor stand for nothing that is known."""
+    if call.is_done and call.result is not None:
+        process.files.close(call.result)
 
 
 def on_ftruncate(trace: Trace, call: Call, process: Process) -> None:

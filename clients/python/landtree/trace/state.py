@@ -5,7 +5,7 @@ from __future__ import annotations
 from typing import Dict, List, Optional, Set
 
 from .events import AFTER_POLICY, Event, Note
-from .holders import Files, Opened, Place, Process
+from .holders import Files, Place, Process
 from .inventory import Inventory
 from .lives import Birth, Lives
 from .log import Call, Descriptor, End, descriptor_of
