@@ -134,11 +134,13 @@ static void write_data(FILE *text, const char *bytes, size_t count) {
 /* All bytes of the file, however many it has by now. */
 static char *bytes_of(int directory, const char *name, const char *path, size_t most, size_t *count) {
     char *bytes = NULL;
+    struct stat real;
     int file = openat(directory, name, O_RDONLY | O_NOFOLLOW | O_NONBLOCK | O_CLOEXEC);
-    if (file < 0) misfit(path, strerror(errno));
+    if (file < 0 || fstat(file, &real) != 0) misfit(path, strerror(errno));
+    size_t piece = (size_t)real.st_size + 1;
     for (*count = 0;;) {
-        bytes = wanted(realloc(bytes, *count + 65536));
-        ssize_t got = read(file, bytes + *count, 65536);
+        bytes = wanted(realloc(bytes, *count + piece));
+        ssize_t got = read(file, bytes + *count, piece);
         if (got < 0) misfit(path, strerror(errno));
         if (got == 0) break;
         *count += (size_t)got;
@@ -195,7 +197,7 @@ static void take_node(struct beginning *it, int directory, unsigned long parent,
     char spelled[SPELLED_ROOM], path[PATH_ROOM];
     struct stat real;
     const char *word = NULL;
-    spell(spelled, name);
+    if (!spell(spelled, name)) misfit(name, "has too long a name");
     if (path_below(&it->session->nodes, parent, spelled, path) != 0) misfit(spelled, "has too long a path");
     if (strlen(spelled) > NAME_MOST) misfit(path, "has too long a name: bytes beyond printed ASCII count three");
     if (depth > DEPTH_MOST) misfit(path, "is more than 64 names deep");

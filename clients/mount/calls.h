@@ -11,6 +11,10 @@ struct session *session_of(fuse_req_t request);
 
 void refuse(fuse_req_t request, int fault);
 
+/* A name below a directory, spelled, and its path; or a negative errno. */
+int path_of(const struct session *session, fuse_ino_t parent, const char *name, char spelled[SPELLED_ROOM],
+            char path[PATH_ROOM]);
+
 /* What a reply of `stat` says of the node below that name; NULL if it isn't what the mount expects, which gets a line. */
 struct node *agreed(struct session *session, const char *reply, unsigned long parent, const char *spelled);
 

@@ -39,7 +39,7 @@ static int opener_for(struct session *session, unsigned *opener) {
 
 static void leave_descriptor(struct session *session, unsigned opener, unsigned descriptor) {
     tree_say(&session->tree, "@%u close %u", client(opener), descriptor);
-    tree_leave(&session->tree);
+    tree_leave(&session->tree, "ok");
     session->openings[opener]--;
 }
 
@@ -108,9 +108,8 @@ static void create_file(fuse_req_t request, fuse_ino_t parent, const char *name,
     struct node *node = NULL;
     struct fuse_entry_param entry;
     struct opening *opening = calloc(1, sizeof *opening);
-    spell(spelled, name);
     mode_of(file->flags, true, way);
-    int fault = opening == NULL ? -ENOMEM : path_below(&session->nodes, parent, spelled, path);
+    int fault = opening == NULL ? -ENOMEM : path_of(session, parent, name, spelled, path);
     if (fault == 0) fault = opener_for(session, &opening->opener);
     if (fault == 0) {
         tree_say(&session->tree, "@%u open %s %s", client(opening->opener), way, path);

@@ -25,12 +25,15 @@ enum { UNMOUNTED = 0, DETACHED = 1, STILL_MOUNTED = 2 };
 #define TRIES 10
 #define TRY_MILLISECONDS 20
 
+/* Once it is unmounted, the kernel says so within this time, or others still have the mount in their namespaces. */
+#define LAST_MILLISECONDS 500
+
 struct life {
     struct session *session;
     int signals;
     pid_t command, unmounter;
-    int status;       /* of CMD, as waitpid says it */
-    bool is_detached; /* nobody is served any more */
+    int status;                      /* of CMD, as waitpid says it */
+    bool is_unmounted, is_detached; /* detached: nobody is answered any more */
 };
 
 /* ---- The namespace ---- */
@@ -86,8 +89,10 @@ void mount_tree(struct session *session) {
     add_calls_on_files(&calls);
     session->fuse = fuse_session_new(&args, &calls, sizeof calls, session);
     fuse_opt_free_args(&args);
-    if (session->fuse == NULL || fuse_session_mount(session->fuse, session->root) != 0)
+    if (session->fuse == NULL || fuse_session_mount(session->fuse, session->root) != 0) {
+        tree_abandon(&session->tree);
         give_up("DIR %s can't be mounted at", session->options.directory);
+    }
     int device = fuse_session_fd(session->fuse);
     if (fcntl(device, F_SETFL, fcntl(device, F_GETFL) | O_NONBLOCK) != 0) give_up("/dev/fuse: %s", strerror(errno));
     /* Before there is a thread, so that no thread gets them. */
@@ -217,8 +222,10 @@ static void children_have_ended(struct life *life) {
         life->status = status;
         start_unmounting(life);
     }
-    if (life->unmounter > 0 && waitpid(life->unmounter, &status, WNOHANG) == life->unmounter)
-        life->is_detached = !(WIFEXITED(status) && WEXITSTATUS(status) == UNMOUNTED) || life->is_detached;
+    if (life->unmounter > 0 && waitpid(life->unmounter, &status, WNOHANG) == life->unmounter) {
+        life->is_unmounted = true;
+        life->is_detached = !(WIFEXITED(status) && WEXITSTATUS(status) == UNMOUNTED);
+    }
 }
 
 /* A signal is for CMD. Those of the terminal's keys have come to it already. Without CMD it ends the mount. */
@@ -237,12 +244,19 @@ static void answer(struct session *session, struct fuse_buf *buffer) {
     else if (got != -EAGAIN && got != -EINTR) fuse_session_exit(session->fuse);
 }
 
+/* Before it ends, the thread that gives notices may need answers. */
+static bool is_over(const struct life *life) {
+    return fuse_session_exited(life->session->fuse) || (life->is_detached && are_given(life->session->notices));
+}
+
 static void answer_requests(struct life *life) {
     struct fuse_buf buffer = {.mem = NULL};
     struct session *session = life->session;
-    while (!fuse_session_exited(session->fuse) && !life->is_detached) {
+    while (!is_over(life)) {
         struct pollfd ready[] = {{fuse_session_fd(session->fuse), POLLIN, 0}, {life->signals, POLLIN, 0}};
-        if (poll(ready, 2, -1) < 0) continue;
+        int count = poll(ready, 2, life->is_detached ? 1 : life->is_unmounted ? LAST_MILLISECONDS : -1);
+        if (count == 0) life->is_detached = life->is_unmounted;
+        if (count <= 0) continue;
         if (ready[1].revents != 0) take_signal(life);
         if (ready[0].revents != 0) answer(session, &buffer);
     }

@@ -78,7 +78,7 @@ static bool end_tree(struct session *session) {
     bool was_lost = session->tree.is_lost, ended = tree_end(&session->tree, SAVING_MOST);
     const char *message = tree_message(&session->tree, session->policy, "the policy"), *save = session->options.save;
     if (message != NULL) fault("%s", message);
-    if (!ended && save != NULL) fault("%s isn't saved: %s.part has what was answered", save, save);
+    if (!ended && save != NULL) fault("%s isn't saved: its record, as %s.part, has what was answered", save, save);
     else if (!ended && !was_lost) fault("landtree has ended badly");
     return ended;
 }
@@ -98,9 +98,9 @@ int main(int count, char **words) {
     session->told = wanted(calloc(KINDS_MOST, sizeof *session->told));
     open_places(session);
     prepare(session, program);
+    if (session->options.command != NULL) enter_own_namespace();
     start_tree(session, program);
     check_start(session);
-    if (session->options.command != NULL) enter_own_namespace();
     if (chdir("/") != 0) give_up("/: %s", strerror(errno));
     mount_tree(session);
     int status = live(session);

@@ -18,6 +18,11 @@ struct session *session_of(fuse_req_t request) {
 
 void refuse(fuse_req_t request, int fault) { fuse_reply_err(request, -fault); }
 
+int path_of(const struct session *session, fuse_ino_t parent, const char *name, char spelled[SPELLED_ROOM],
+            char path[PATH_ROOM]) {
+    return spell(spelled, name) ? path_below(&session->nodes, parent, spelled, path) : -ENAMETOOLONG;
+}
+
 /* A node of several names is looked up anew each time, since a policy may grant more on one path than on another. */
 void fill_entry(struct node *node, struct fuse_entry_param *entry) {
     bool has_one = node->names == NULL || node->names->next == NULL;
@@ -74,11 +79,6 @@ int paths_of(struct session *session, const struct node *node, char (**paths)[PA
     return fault;
 }
 
-/* The kernel is to forget the names of a node that has got one more. */
-static void forget_names(struct session *session, const struct node *node) {
-    for (const struct name *it = node->names; it != NULL; it = it->next) add_notice(session->notices, it->parent, it->text);
-}
-
 /* ---- Looking up ---- */
 
 struct node *agreed(struct session *session, const char *reply, unsigned long parent, const char *spelled) {
@@ -91,18 +91,30 @@ struct node *agreed(struct session *session, const char *reply, unsigned long pa
     return NULL;
 }
 
+/* Nobody but this mount changes the tree, so it knows what is missing, and needn't wait to be answered that. */
+static bool is_surely_missing(const struct session *session, unsigned long parent, const char *spelled, const char *path) {
+    int depth = 0;
+    for (const char *sign = path; *sign != 0; sign++) depth += *sign == '/';
+    return node_named(&session->nodes, parent, spelled) == NULL && strlen(spelled) <= NAME_MOST && depth <= DEPTH_MOST;
+}
+
+static void reply_missing(fuse_req_t request) {
+    struct fuse_entry_param none = {.entry_timeout = KEPT_SECONDS};
+    fuse_reply_entry(request, &none);
+}
+
 static void look_up(fuse_req_t request, fuse_ino_t parent, const char *name) {
     struct session *session = session_of(request);
     char path[PATH_ROOM], spelled[SPELLED_ROOM];
     const char *reply;
-    spell(spelled, name);
-    int fault = path_below(&session->nodes, parent, spelled, path);
-    if (fault == 0) fault = ask(session, &reply, "stat %s", path);
-    if (fault == -ENOENT) {
-        struct fuse_entry_param none = {.entry_timeout = KEPT_SECONDS};
-        fuse_reply_entry(request, &none);
-        return;
+    int fault = path_of(session, parent, name, spelled, path);
+    if (fault == 0 && is_surely_missing(session, parent, spelled, path)) {
+        reply_missing(request);
+        tree_say(&session->tree, "stat %s", path);
+        return tree_leave(&session->tree, "refused 3 ENOENT");
     }
+    if (fault == 0) fault = ask(session, &reply, "stat %s", path);
+    if (fault == -ENOENT) return reply_missing(request);
     struct node *node = fault == 0 ? agreed(session, reply, parent, spelled) : NULL;
     if (node == NULL) return refuse(request, fault != 0 ? fault : -EIO);
     leave_trail(session, node, parent, spelled);
@@ -221,8 +233,7 @@ static void make(fuse_req_t request, const char *kind, fuse_ino_t parent, const 
     struct session *session = session_of(request);
     char path[PATH_ROOM], spelled[SPELLED_ROOM];
     const char *reply = NULL;
-    spell(spelled, name);
-    int fault = path_below(&session->nodes, parent, spelled, path);
+    int fault = path_of(session, parent, name, spelled, path);
     if (fault == 0) {
         tree_say(&session->tree, "make %s %s", kind, path);
         tree_say(&session->tree, "stat %s", path);
@@ -264,8 +275,7 @@ static void has_left(struct session *session, struct node *node) {
 static void remove_name(fuse_req_t request, const char *call, fuse_ino_t parent, const char *name) {
     struct session *session = session_of(request);
     char path[PATH_ROOM], spelled[SPELLED_ROOM];
-    spell(spelled, name);
-    int fault = path_below(&session->nodes, parent, spelled, path);
+    int fault = path_of(session, parent, name, spelled, path);
     if (fault == 0) fault = ask(session, NULL, "%s %s", call, path);
     if (fault != 0) return refuse(request, fault);
     struct node *node = node_named(&session->nodes, parent, spelled);
@@ -308,10 +318,8 @@ static void move(fuse_req_t request, fuse_ino_t parent, const char *name, fuse_i
     char old[PATH_ROOM], new[PATH_ROOM], spelled[SPELLED_ROOM], new_spelled[SPELLED_ROOM];
     const char *call = flags == 0 ? "rename" : flags == RENAME_NOREPLACE ? "rename_noreplace"
                      : flags == RENAME_EXCHANGE ? "exchange" : NULL;
-    spell(spelled, name);
-    spell(new_spelled, new_name);
-    int fault = call == NULL ? -EINVAL : path_below(&session->nodes, parent, spelled, old);
-    if (fault == 0) fault = path_below(&session->nodes, new_parent, new_spelled, new);
+    int fault = call == NULL ? -EINVAL : path_of(session, parent, name, spelled, old);
+    if (fault == 0) fault = path_of(session, new_parent, new_name, new_spelled, new);
     if (fault == 0) fault = ask(session, NULL, "%s %s %s", call, old, new);
     if (fault == 0) move_names(session, parent, spelled, new_parent, new_spelled, flags == RENAME_EXCHANGE);
     refuse(request, fault);
@@ -322,20 +330,21 @@ static void link_node(fuse_req_t request, fuse_ino_t number, fuse_ino_t parent, 
     struct node *node = node_of(&session->nodes, number);
     char path[PATH_ROOM], spelled[SPELLED_ROOM], (*paths)[PATH_ROOM] = NULL;
     size_t count;
-    spell(spelled, name);
-    int fault = node == NULL ? -ESTALE : path_below(&session->nodes, parent, spelled, path);
+    int fault = node == NULL ? -ESTALE : path_of(session, parent, name, spelled, path);
     if (fault == 0) fault = paths_of(session, node, &paths, &count);
     if (fault == 0) {
         fault = ask(session, NULL, "link %s %s", paths[0], path);
         free(paths);
     }
     if (fault != 0) return refuse(request, fault);
+    /* While it had one name only, the kernel has kept that. */
+    const struct name *only = node->names != NULL && node->names->next == NULL ? node->names : NULL;
     if (!add_name(&session->nodes, node, parent, spelled)) return refuse(request, -ENOMEM);
     node->links++;
     node->changed = now();
     has_changed(&session->nodes, parent);
     reply_entry(request, node);
-    forget_names(session, node);
+    if (only != NULL) add_notice(session->notices, only->parent, only->text);
 }
 
 void add_calls_on_names(struct fuse_lowlevel_ops *calls) {

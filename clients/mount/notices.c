@@ -5,7 +5,6 @@
 #include "spelling.h"
 #include <fuse_lowlevel.h>
 #include <pthread.h>
-#include <stdbool.h>
 #include <stdlib.h>
 #include <string.h>
 
@@ -21,14 +20,16 @@ struct notices {
     pthread_mutex_t lock;
     pthread_cond_t has_more;
     struct notice *first, **last;
-    bool is_ended;
+    bool is_ended, is_giving;
 };
 
 static struct notice *next_notice(struct notices *notices) {
     pthread_mutex_lock(&notices->lock);
+    notices->is_giving = false;
     while (notices->first == NULL && !notices->is_ended) pthread_cond_wait(&notices->has_more, &notices->lock);
     struct notice *notice = notices->first;
     if (notice != NULL && (notices->first = notice->next) == NULL) notices->last = &notices->first;
+    notices->is_giving = notice != NULL;
     pthread_mutex_unlock(&notices->lock);
     return notice;
 }
@@ -58,10 +59,23 @@ void add_notice(struct notices *notices, unsigned long parent, const char *spell
     notice->parent = parent, notice->next = NULL;
     strcpy(notice->name, spelled);
     pthread_mutex_lock(&notices->lock);
-    *notices->last = notice;
-    notices->last = &notice->next;
+    if (!notices->is_ended) {
+        *notices->last = notice;
+        notices->last = &notice->next;
+        pthread_cond_signal(&notices->has_more);
+    } else {
+        free(notice);
+    }
+    pthread_mutex_unlock(&notices->lock);
+}
+
+bool are_given(struct notices *notices) {
+    pthread_mutex_lock(&notices->lock);
+    notices->is_ended = true;
+    bool given = notices->first == NULL && !notices->is_giving;
     pthread_cond_signal(&notices->has_more);
     pthread_mutex_unlock(&notices->lock);
+    return given;
 }
 
 void end_notices(struct notices *notices) {

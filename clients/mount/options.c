@@ -60,7 +60,8 @@ static int take_value(struct values *values, char **words) {
         const char **value = (const char **)((char *)values + table[i].place);
         const char *given = words[0][length] == '=' ? words[0] + length + 1 : words[1];
         if (*value != NULL) refuse("%s is given twice", table[i].name);
-        if (given == NULL || *given == 0 || strcmp(given, "--") == 0) refuse("%s needs a value", table[i].name);
+        if (given == NULL || *given == 0 || (given == words[1] && strncmp(given, "--", 2) == 0))
+            refuse("%s needs a value", table[i].name);
         *value = given;
         return words[0][length] == '=' ? 1 : 2;
     }

@@ -1,17 +1,23 @@
 /* How names are spelled in the tree, as `python3 -m landtree convert` spells them. */
 #include "spelling.h"
 #include <stdio.h>
+#include <string.h>
 
-void spell(char spelled[SPELLED_ROOM], const char *name) {
-    for (int left = NAME_MOST; *name != 0 && left > 0; name++, left--) {
+bool spell(char spelled[SPELLED_ROOM], const char *name) {
+    if (strlen(name) > NAME_MOST) return false;
+    for (; *name != 0; name++) {
         unsigned char byte = (unsigned char)*name;
         if (byte > ' ' && byte < 127 && byte != '%') *spelled++ = (char)byte;
         else spelled += sprintf(spelled, "%%%02X", byte);
     }
     *spelled = 0;
+    return true;
 }
 
-static int digit(char sign) { return sign >= '0' && sign <= '9' ? sign - '0' : sign >= 'A' && sign <= 'F' ? sign - 'A' + 10 : -1; }
+static int digit(char sign) {
+    if (sign >= '0' && sign <= '9') return sign - '0';
+    return sign >= 'A' && sign <= 'F' ? sign - 'A' + 10 : -1;
+}
 
 void unspell(char *name) {
     char *out = name;

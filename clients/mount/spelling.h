@@ -3,8 +3,11 @@
 #define SPELLING_H
 
 #include "limits.h"
+#include <stdbool.h>
 
-void spell(char spelled[SPELLED_ROOM], const char *name);
+/* Whether the name isn't too long: it has at most 255 bytes. (What is spelled may be too long for the tree all the
+ * same, which says so itself.) */
+bool spell(char spelled[SPELLED_ROOM], const char *name);
 
 /* Undoes it in place. */
 void unspell(char *name);

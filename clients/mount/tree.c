@@ -18,6 +18,10 @@
 /* The longest reply is a listing of 262,150 bytes. */
 #define REPLIES_ROOM (1 << 20)
 #define SHOWN 120
+/* A lost tree that isn't stopped ends by itself within this time. */
+#define LOST_SECONDS 1
+
+static const char full[] = "refused 21 HistoryFull";
 
 static long milliseconds(void) {
     struct timespec now;
@@ -170,12 +174,22 @@ static char *next_reply(struct tree *tree, long deadline) {
     }
 }
 
+/* Takes the replies that nobody awaited. A full history may have come in their place. */
+static void take_owed(struct tree *tree, long deadline) {
+    while (!tree->is_lost && tree->owed.count != 0) {
+        const char *reply = next_reply(tree, deadline), *want = tree->owed.replies[tree->owed.from];
+        if (reply == NULL) return;
+        if (strcmp(reply, want) != 0 && strcmp(reply, full) != 0) lose(tree, "landtree answers what it can't");
+        tree->owed.from = (tree->owed.from + 1) % OWED_MOST;
+        tree->owed.count--;
+    }
+}
+
 const char *tree_hear(struct tree *tree, const char **call) {
     long deadline = milliseconds() + 1000L * tree->wait;
     *call = "";
     if (!tree->is_lost) send_some(tree);
-    while (!tree->is_lost && tree->owed != 0)
-        if (next_reply(tree, deadline) != NULL) tree->owed--;
+    take_owed(tree, deadline);
     char *reply = tree->is_lost ? NULL : next_reply(tree, deadline);
     if (reply == NULL) {
         tree->out.used = tree->out.sent = tree->out.heard = 0;
@@ -188,12 +202,14 @@ const char *tree_hear(struct tree *tree, const char **call) {
     return reply;
 }
 
-void tree_leave(struct tree *tree) {
+void tree_leave(struct tree *tree, const char *reply) {
     long deadline = milliseconds() + 1000L * tree->wait;
+    if (tree->owed.count == OWED_MOST) take_owed(tree, deadline);
     while (!tree->is_lost && tree->out.sent < tree->out.used)
         if (send_some(tree) && tree->out.sent < tree->out.used) proceed(tree, deadline);
     tree->out.used = tree->out.sent = tree->out.heard = 0;
-    tree->owed++;
+    if (tree->is_lost) return;
+    tree->owed.replies[(tree->owed.from + tree->owed.count++) % OWED_MOST] = reply;
 }
 
 /* Waits for the end of its output. */
@@ -219,7 +235,7 @@ static bool has_ended(struct tree *tree, long deadline, int *status) {
 
 bool tree_end(struct tree *tree, int seconds) {
     int status = 0;
-    long deadline = milliseconds() + 1000L * (tree->is_lost ? 2 : seconds);
+    long deadline = milliseconds() + 1000L * (tree->is_lost ? LOST_SECONDS : seconds);
     shutdown(tree->socket, SHUT_WR);
     bool ended = (tree->is_lost || is_through(tree, deadline)) && has_ended(tree, deadline, &status);
     if (!ended) {
@@ -231,6 +247,11 @@ bool tree_end(struct tree *tree, int seconds) {
     free(tree->in.bytes);
     free(tree->out.bytes);
     return ended && !tree->is_lost && status == 0;
+}
+
+void tree_abandon(struct tree *tree) {
+    kill(tree->child, SIGKILL);
+    waitpid(tree->child, NULL, 0);
 }
 
 const char *tree_message(struct tree *tree, int policy, const char *name) {

@@ -7,13 +7,18 @@
 #include <stddef.h>
 #include <sys/types.h>
 
+#define OWED_MOST 64
+
 struct tree {
     pid_t child;
     int socket, messages; /* messages: a file without a name, the child's standard error */
     long shown;           /* how many bytes of the messages were written on */
     int wait;             /* seconds for a reply */
     bool is_lost, is_mounted; /* mounted: its loss is worth a line */
-    unsigned long owed; /* replies that still come, and that nobody awaits */
+    struct {
+        const char *replies[OWED_MOST]; /* what has to come, and nobody awaits: a ring */
+        unsigned from, count;
+    } owed;
     struct {
         char *bytes;
         size_t room, used, sent, heard; /* the lines of one exchange: how many bytes are sent, and are answered */
@@ -35,11 +40,14 @@ void tree_say_bytes(struct tree *tree, const char *bytes, size_t count);
  * that line. */
 const char *tree_hear(struct tree *tree, const char **call);
 
-/* Sends what was said; nobody awaits the reply of the last line. */
-void tree_leave(struct tree *tree);
+/* Sends the line that was said; nobody awaits its reply, which can only be this one. (If another comes, it's lost.) */
+void tree_leave(struct tree *tree, const char *reply);
 
 /* Ends the input, and waits until the child has ended, at most some seconds. Whether it has ended well. */
 bool tree_end(struct tree *tree, int seconds);
+
+/* Kills the child, so that it saves nothing. */
+void tree_abandon(struct tree *tree);
 
 /* What the child has written on standard error since the last time, as one line; NULL if it has written nothing. In
  * place of the path of the descriptor `policy` it has `name`. It is valid until the end. */
