@@ -105,12 +105,11 @@ int hear(struct session *session, const char **reply) {
 }
 
 int ask(struct session *session, const char **reply, const char *format, ...) {
-    char line[2 * PATH_ROOM + 64];
+    char line[2 * PATH_ROOM + 32];
     va_list words;
     va_start(words, format);
-    int length = vsnprintf(line, sizeof line, format, words);
+    vsnprintf(line, sizeof line, format, words);
     va_end(words);
-    if (length < 0 || (size_t)length >= sizeof line) return -ENAMETOOLONG;
     tree_say(&session->tree, "%s", line);
     return hear(session, reply);
 }

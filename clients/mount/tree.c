@@ -1,6 +1,7 @@
 /* The child that is the tree: its start, lines, replies and end. */
 #include "tree.h"
 #include "faults.h"
+#include "limits.h"
 #include <errno.h>
 #include <fcntl.h>
 #include <poll.h>
@@ -18,6 +19,8 @@
 /* The longest reply is a listing of 262,150 bytes. */
 #define REPLIES_ROOM (1 << 20)
 #define SHOWN 120
+/* Two paths, and the words around them. */
+#define LINE_ROOM (2 * PATH_ROOM + 64)
 /* A lost tree that isn't stopped ends by itself within this time. */
 #define LOST_SECONDS 1
 
@@ -89,21 +92,16 @@ static void *room_for(struct tree *tree, size_t more) {
 }
 
 void tree_say(struct tree *tree, const char *format, ...) {
-    va_list words, again;
     if (tree->is_lost) return;
+    char *line = room_for(tree, LINE_ROOM);
+    if (line == NULL) return lose(tree, "no memory for a line");
+    va_list words;
     va_start(words, format);
-    va_copy(again, words);
-    size_t length = (size_t)vsnprintf(NULL, 0, format, words);
-    char *line = room_for(tree, length + 2);
-    if (line != NULL) {
-        vsnprintf(line, length + 1, format, again);
-        line[length] = '\n';
-        tree->out.used += length + 1;
-    } else {
-        lose(tree, "no memory for a line");
-    }
-    va_end(again);
+    int length = vsnprintf(line, LINE_ROOM, format, words);
     va_end(words);
+    if (length < 0 || length >= LINE_ROOM - 1) return lose(tree, "a line that is too long");
+    line[length] = '\n';
+    tree->out.used += (size_t)length + 1;
 }
 
 void tree_say_bytes(struct tree *tree, const char *bytes, size_t count) {
