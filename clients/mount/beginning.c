@@ -11,14 +11,6 @@
 #include <sys/mman.h>
 #include <unistd.h>
 
-static const struct {
-    const char *word;
-    mode_t kind;
-} kinds[] = {{"reg", S_IFREG},   {"dir", S_IFDIR},  {"sym", S_IFLNK},  {"fifo", S_IFIFO},
-             {"sock", S_IFSOCK}, {"char", S_IFCHR}, {"block", S_IFBLK}};
-
-#define KINDS (sizeof kinds / sizeof *kinds)
-
 /* One reading of a directory. */
 struct beginning {
     struct session *session;
@@ -72,16 +64,14 @@ static void read_names(struct session *session, struct tree *tree, unsigned long
 static void read_node(struct session *session, struct tree *tree, unsigned long parent, const char *name, unsigned long *last) {
     char path[PATH_ROOM], word[16];
     unsigned long number, size, links;
-    mode_t kind = 0;
     if (path_below(&session->nodes, parent, name, path) != 0) give_up("the policy has a path that is too long");
     tree_say(tree, "stat %s", path);
     const char *reply = must_hear(tree, session->policy, session->options.policy);
     if (sscanf(reply, "stat %lu %15s %lu %lu", &number, word, &size, &links) != 4) give_up("stat %s = %s", path, reply);
-    for (size_t i = 0; i < KINDS; i++)
-        if (strcmp(kinds[i].word, word) == 0) kind = kinds[i].kind;
+    mode_t kind = kind_of(word);
     struct node *node = wanted(add_node(&session->nodes, number, first_mode(kind)));
     if (!add_name(&session->nodes, node, parent, name)) give_up("no memory");
-    node->size = (off_t)size;
+    node->size = node->in_tree = (off_t)size;
     if (number > *last) *last = number;
     if (kind == S_IFREG && size != 0 && keeps(session)) read_bytes(session, tree, node, path);
     if (kind == S_IFDIR) read_names(session, tree, number, last);
@@ -155,7 +145,7 @@ static void take_bytes(struct beginning *it, int directory, const char *name, co
     size_t count;
     bool in_tree = !it->session->options.keeps_bytes;
     char *bytes = bytes_of(directory, name, path, in_tree ? FILE_MOST : KEPT_MOST, &count);
-    if (in_tree) write_data(it->text, bytes, count);
+    if (in_tree) write_data(it->text, bytes, count), node->in_tree = (off_t)count;
     if (!keeps(it->session)) node->size = (off_t)count;
     else if (keep_bytes(&it->session->nodes, node, bytes, count, 0) != 0) misfit(path, "is too large");
     free(bytes);
@@ -196,20 +186,17 @@ static struct node *node_at(struct beginning *it, unsigned long parent, const ch
 static void take_node(struct beginning *it, int directory, unsigned long parent, const char *name, int depth) {
     char spelled[SPELLED_ROOM], path[PATH_ROOM];
     struct stat real;
-    const char *word = NULL;
     if (!spell(spelled, name)) misfit(name, "has too long a name");
     if (path_below(&it->session->nodes, parent, spelled, path) != 0) misfit(spelled, "has too long a path");
     if (strlen(spelled) > NAME_MOST) misfit(path, "has too long a name: bytes beyond printed ASCII count three");
     if (depth > DEPTH_MOST) misfit(path, "is more than 64 names deep");
     if (fstatat(directory, name, &real, AT_SYMLINK_NOFOLLOW) != 0) misfit(path, strerror(errno));
-    for (size_t i = 0; i < KINDS; i++)
-        if (kinds[i].kind == (real.st_mode & S_IFMT)) word = kinds[i].word;
     bool is_new = node_named(&it->session->nodes, parent, spelled) == NULL;
     struct node *node = node_at(it, parent, spelled, path, &real);
     take_attributes(node, &real);
     if (is_new) {
         write_path(it->text, path);
-        fprintf(it->text, "kind = \"%s\"\n", word);
+        fprintf(it->text, "kind = \"%s\"\n", word_of(real.st_mode));
     }
     if (!S_ISDIR(real.st_mode) && real.st_nlink > 1) it->links++;
     if (S_ISREG(real.st_mode)) take_bytes(it, directory, name, path, node);

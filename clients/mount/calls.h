@@ -15,9 +15,6 @@ void refuse(fuse_req_t request, int fault);
 int path_of(const struct session *session, fuse_ino_t parent, const char *name, char spelled[SPELLED_ROOM],
             char path[PATH_ROOM]);
 
-/* What a reply of `stat` says of the node below that name; NULL if it isn't what the mount expects, which gets a line. */
-struct node *agreed(struct session *session, const char *reply, unsigned long parent, const char *spelled);
-
 /* A node that the caller has just created, of which the tree's `stat` has answered `reply`. */
 struct node *created(fuse_req_t request, const char *reply, unsigned long parent, const char *spelled, mode_t mode);
 

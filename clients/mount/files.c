@@ -82,7 +82,7 @@ static int open_node(struct session *session, const struct node *node, int flags
 static void has_opened(struct session *session, struct node *node, struct opening *opening, struct fuse_file_info *file) {
     if (file->flags & O_TRUNC) {
         if (keeps(session)) keep_length(&session->nodes, node, 0);
-        node->size = 0;
+        node->size = node->in_tree = 0;
         node->written = node->changed = now();
     }
     opening->node = node;
@@ -226,6 +226,7 @@ static void write_file(fuse_req_t request, fuse_ino_t number, const char *bytes,
     if (fault == 0 && keeps(session)) fault = keep_bytes(&session->nodes, node, bytes, done, from);
     if (fault != 0) return refuse(request, fault);
     if (from + (off_t)done > node->size) node->size = from + (off_t)done;
+    if (!session->options.keeps_bytes) node->in_tree = node->size;
     node->written = node->changed = now();
     fuse_reply_write(request, done);
 }

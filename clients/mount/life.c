@@ -254,8 +254,10 @@ static void answer_requests(struct life *life) {
     struct session *session = life->session;
     while (!is_over(life)) {
         struct pollfd ready[] = {{fuse_session_fd(session->fuse), POLLIN, 0}, {life->signals, POLLIN, 0}};
-        int count = poll(ready, 2, life->is_detached ? 1 : life->is_unmounted ? LAST_MILLISECONDS : -1);
-        if (count == 0) life->is_detached = life->is_unmounted;
+        bool is_idle = !tree_has_unsent(&session->tree);
+        int count = poll(ready, 2, life->is_detached || !is_idle ? 1 : life->is_unmounted ? LAST_MILLISECONDS : -1);
+        if (count == 0 && is_idle) life->is_detached = life->is_unmounted;
+        if (count == 0) tree_send(&session->tree);
         if (count <= 0) continue;
         if (ready[1].revents != 0) take_signal(life);
         if (ready[0].revents != 0) answer(session, &buffer);

@@ -81,21 +81,13 @@ int paths_of(struct session *session, const struct node *node, char (**paths)[PA
 
 /* ---- Looking up ---- */
 
-struct node *agreed(struct session *session, const char *reply, unsigned long parent, const char *spelled) {
-    unsigned long number, size, links;
-    struct node *node = node_named(&session->nodes, parent, spelled);
-    if (sscanf(reply, "stat %lu %*s %lu %lu", &number, &size, &links) == 3 && node != NULL && node->number == number &&
-        node->links == links && (!S_ISREG(node->mode) || session->options.keeps_bytes || node->size == (off_t)size))
-        return node;
-    fault("the tree answers %s of %s, which isn't what it did", reply, spelled);
-    return NULL;
-}
-
-/* Nobody but this mount changes the tree, so it knows what is missing, and needn't wait to be answered that. */
-static bool is_surely_missing(const struct session *session, unsigned long parent, const char *spelled, const char *path) {
-    int depth = 0;
-    for (const char *sign = path; *sign != 0; sign++) depth += *sign == '/';
-    return node_named(&session->nodes, parent, spelled) == NULL && strlen(spelled) <= NAME_MOST && depth <= DEPTH_MOST;
+/* Nobody but this mount changes the tree, so it knows what the tree will answer, and needn't wait for it. */
+static void say_stat(struct session *session, const struct node *node, const char *path) {
+    char reply[REPLY_ROOM] = "refused 3 ENOENT";
+    if (node != NULL)
+        snprintf(reply, sizeof reply, "stat %lu %s %ld %lu", node->number, word_of(node->mode), (long)node->in_tree, node->links);
+    tree_say(&session->tree, "stat %s", path);
+    tree_leave(&session->tree, reply);
 }
 
 static void reply_missing(fuse_req_t request) {
@@ -103,20 +95,23 @@ static void reply_missing(fuse_req_t request) {
     fuse_reply_entry(request, &none);
 }
 
+/* Whether the tree can have a name at this path. */
+static bool may_be_named(const char *spelled, const char *path) {
+    int depth = 0;
+    for (const char *sign = path; *sign != 0; sign++) depth += *sign == '/';
+    return strlen(spelled) <= NAME_MOST && depth <= DEPTH_MOST;
+}
+
 static void look_up(fuse_req_t request, fuse_ino_t parent, const char *name) {
     struct session *session = session_of(request);
     char path[PATH_ROOM], spelled[SPELLED_ROOM];
-    const char *reply;
     int fault = path_of(session, parent, name, spelled, path);
-    if (fault == 0 && is_surely_missing(session, parent, spelled, path)) {
-        reply_missing(request);
-        tree_say(&session->tree, "stat %s", path);
-        return tree_leave(&session->tree, "refused 3 ENOENT");
-    }
-    if (fault == 0) fault = ask(session, &reply, "stat %s", path);
-    if (fault == -ENOENT) return reply_missing(request);
-    struct node *node = fault == 0 ? agreed(session, reply, parent, spelled) : NULL;
-    if (node == NULL) return refuse(request, fault != 0 ? fault : -EIO);
+    if (fault == 0 && !may_be_named(spelled, path)) fault = ask(session, NULL, "stat %s", path);
+    if (fault == 0 && session->tree.is_lost) fault = -EIO;
+    if (fault != 0) return refuse(request, fault);
+    struct node *node = node_named(&session->nodes, parent, spelled);
+    say_stat(session, node, path);
+    if (node == NULL) return reply_missing(request);
     leave_trail(session, node, parent, spelled);
     reply_entry(request, node);
 }
@@ -171,6 +166,7 @@ static int cut(struct session *session, struct node *node, off_t length, const s
     if (fault == 0 && keeps(session)) fault = keep_length(&session->nodes, node, length);
     if (fault != 0) return fault;
     node->size = length;
+    node->in_tree = asked;
     node->written = now();
     return 0;
 }
@@ -249,10 +245,8 @@ static void make(fuse_req_t request, const char *kind, fuse_ino_t parent, const 
 }
 
 static void make_node(fuse_req_t request, fuse_ino_t parent, const char *name, mode_t mode, dev_t device) {
-    const char *kind = S_ISREG(mode) ? "reg" : S_ISFIFO(mode) ? "fifo" : S_ISSOCK(mode) ? "sock"
-                     : S_ISCHR(mode) ? "char" : S_ISBLK(mode) ? "block" : NULL;
-    if (kind == NULL) return refuse(request, -EINVAL);
-    make(request, kind, parent, name, mode, device, NULL);
+    if (word_of(mode) == NULL) return refuse(request, -EINVAL);
+    make(request, word_of(mode), parent, name, mode, device, NULL);
 }
 
 static void make_directory(fuse_req_t request, fuse_ino_t parent, const char *name, mode_t mode) {

@@ -13,6 +13,26 @@ struct timespec now(void) {
     return it;
 }
 
+static const struct {
+    const char *word;
+    mode_t kind;
+} kinds[] = {{"reg", S_IFREG},   {"dir", S_IFDIR},  {"sym", S_IFLNK},  {"fifo", S_IFIFO},
+             {"sock", S_IFSOCK}, {"char", S_IFCHR}, {"block", S_IFBLK}};
+
+#define KINDS (sizeof kinds / sizeof *kinds)
+
+mode_t kind_of(const char *word) {
+    for (size_t i = 0; i < KINDS; i++)
+        if (strcmp(kinds[i].word, word) == 0) return kinds[i].kind;
+    return 0;
+}
+
+const char *word_of(mode_t kind) {
+    for (size_t i = 0; i < KINDS; i++)
+        if (kinds[i].kind == (kind & S_IFMT)) return kinds[i].word;
+    return NULL;
+}
+
 struct node *node_of(const struct nodes *nodes, unsigned long number) {
     struct node *it = nodes->chains[number % CHAINS];
     while (it != NULL && it->number != number) it = it->beside;

@@ -27,7 +27,7 @@ struct node {
     gid_t group;
     dev_t device;
     struct timespec read, written, changed;
-    off_t size;
+    off_t size, in_tree; /* in_tree: what the tree says, which has no bytes with --bytes mount */
     char *text, *bytes; /* of a link; what the mount keeps of a file */
     size_t room;
     struct name *names;
@@ -41,6 +41,10 @@ struct nodes {
 };
 
 struct timespec now(void);
+
+/* How the tree names a kind; 0 and NULL if it has no such kind. */
+mode_t kind_of(const char *word);
+const char *word_of(mode_t kind);
 
 struct node *node_of(const struct nodes *nodes, unsigned long number);
 struct node *add_node(struct nodes *nodes, unsigned long number, mode_t mode);

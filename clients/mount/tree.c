@@ -12,6 +12,7 @@
 #include <string.h>
 #include <sys/mman.h>
 #include <sys/socket.h>
+#include <sys/time.h>
 #include <sys/wait.h>
 #include <time.h>
 #include <unistd.h>
@@ -24,7 +25,7 @@
 /* A lost tree that isn't stopped ends by itself within this time. */
 #define LOST_SECONDS 1
 
-static const char full[] = "refused 21 HistoryFull";
+static const char full[] = "refused 21 HistoryFull", late[] = "landtree gave no reply";
 
 static long milliseconds(void) {
     struct timespec now;
@@ -60,6 +61,9 @@ void tree_start(struct tree *tree, const char *program, char *const words[], int
     if (tree->child == 0) become(program, words, policy, ends[1], tree->messages);
     close(ends[1]);
     tree->socket = ends[0];
+    struct timeval most = {wait, 0};
+    if (setsockopt(tree->socket, SOL_SOCKET, SO_RCVTIMEO, &most, sizeof most) != 0)
+        give_up("no time limit: %s", strerror(errno));
 }
 
 static const char *first_line(const struct tree *tree, size_t from, char shown[SHOWN + 1]) {
@@ -73,8 +77,10 @@ static const char *first_line(const struct tree *tree, size_t from, char shown[S
 /* No later reply would be the right one, so there is none. */
 static void lose(struct tree *tree, const char *reason) {
     char shown[SHOWN + 1];
-    if (!tree->is_lost && tree->is_mounted && tree->out.used != 0)
-        fault("%s (%s): from now on every call fails with EIO", reason, first_line(tree, tree->out.heard, shown));
+    if (!tree->is_lost && tree->is_mounted && reason == late)
+        fault("%s in %d s (%s): every call fails now with EIO", reason, tree->wait, first_line(tree, tree->out.heard, shown));
+    else if (!tree->is_lost && tree->is_mounted)
+        fault("%s (%s): every call fails now with EIO", reason, first_line(tree, tree->out.heard, shown));
     tree->is_lost = true;
     shutdown(tree->socket, SHUT_RDWR);
 }
@@ -118,14 +124,15 @@ void tree_say_bytes(struct tree *tree, const char *bytes, size_t count) {
     tree->out.used += 2 * count + 1;
 }
 
-/* Takes what has come; whether the other end is there. */
-static bool receive(struct tree *tree) {
+/* Takes what has come, or waits for it if no flags are set; whether the other end is there. */
+static bool receive(struct tree *tree, int flags) {
     if (tree->in.from != 0) {
         memmove(tree->in.bytes, tree->in.bytes + tree->in.from, tree->in.to - tree->in.from);
         tree->in.to -= tree->in.from, tree->in.from = 0;
     }
     if (tree->in.to == REPLIES_ROOM) return lose(tree, "a reply without an end"), false;
-    ssize_t got = recv(tree->socket, tree->in.bytes + tree->in.to, REPLIES_ROOM - tree->in.to, MSG_DONTWAIT);
+    ssize_t got = recv(tree->socket, tree->in.bytes + tree->in.to, REPLIES_ROOM - tree->in.to, flags);
+    if (got < 0 && errno == EAGAIN && flags == 0) return lose(tree, late), false;
     if (got < 0 && (errno == EAGAIN || errno == EINTR)) return true;
     if (got <= 0) return lose(tree, "landtree has ended"), false;
     tree->in.to += (size_t)got;
@@ -143,20 +150,15 @@ static bool send_some(struct tree *tree) {
 }
 
 /* Waits until something can be sent or has come. Replies are taken while lines are sent, so that neither end waits for
- * the other to read. */
+ * the other to read. Once all is sent, the socket's own time limit does. */
 static bool proceed(struct tree *tree, long deadline) {
-    bool sends = tree->out.sent < tree->out.used;
+    if (tree->out.sent == tree->out.used) return receive(tree, 0);
     long left = deadline - milliseconds();
-    struct pollfd it = {tree->socket, (short)(POLLIN | (sends ? POLLOUT : 0)), 0};
+    struct pollfd it = {tree->socket, POLLIN | POLLOUT, 0};
     int ready = left > 0 ? poll(&it, 1, (int)left) : 0;
-    if (ready == 0) {
-        char reason[64];
-        snprintf(reason, sizeof reason, "landtree gave no reply in %d s", tree->wait);
-        lose(tree, reason);
-        return false;
-    }
+    if (ready == 0) return lose(tree, late), false;
     if (ready < 0) return true; /* a signal came */
-    if (it.revents & (POLLIN | POLLHUP | POLLERR) && !receive(tree)) return false;
+    if (it.revents & (POLLIN | POLLHUP | POLLERR) && !receive(tree, MSG_DONTWAIT)) return false;
     return !(it.revents & POLLOUT) || send_some(tree);
 }
 
@@ -201,13 +203,18 @@ const char *tree_hear(struct tree *tree, const char **call) {
 }
 
 void tree_leave(struct tree *tree, const char *reply) {
-    long deadline = milliseconds() + 1000L * tree->wait;
-    if (tree->owed.count == OWED_MOST) take_owed(tree, deadline);
-    while (!tree->is_lost && tree->out.sent < tree->out.used)
-        if (send_some(tree) && tree->out.sent < tree->out.used) proceed(tree, deadline);
-    tree->out.used = tree->out.sent = tree->out.heard = 0;
+    if (tree->owed.count == OWED_MOST) take_owed(tree, milliseconds() + 1000L * tree->wait);
+    tree->out.heard = tree->out.used;
     if (tree->is_lost) return;
-    tree->owed.replies[(tree->owed.from + tree->owed.count++) % OWED_MOST] = reply;
+    snprintf(tree->owed.replies[(tree->owed.from + tree->owed.count++) % OWED_MOST], REPLY_ROOM, "%s", reply);
+}
+
+bool tree_has_unsent(const struct tree *tree) { return !tree->is_lost && tree->out.sent < tree->out.used; }
+
+void tree_send(struct tree *tree) {
+    long deadline = milliseconds() + 1000L * tree->wait;
+    if (tree_has_unsent(tree)) send_some(tree);
+    while (tree_has_unsent(tree)) proceed(tree, deadline);
 }
 
 /* Waits for the end of its output. */
@@ -234,6 +241,7 @@ static bool has_ended(struct tree *tree, long deadline, int *status) {
 bool tree_end(struct tree *tree, int seconds) {
     int status = 0;
     long deadline = milliseconds() + 1000L * (tree->is_lost ? LOST_SECONDS : seconds);
+    tree_send(tree);
     shutdown(tree->socket, SHUT_WR);
     bool ended = (tree->is_lost || is_through(tree, deadline)) && has_ended(tree, deadline, &status);
     if (!ended) {

@@ -8,6 +8,7 @@
 #include <sys/types.h>
 
 #define OWED_MOST 64
+#define REPLY_ROOM 96 /* of such a reply */
 
 struct tree {
     pid_t child;
@@ -16,7 +17,7 @@ struct tree {
     int wait;             /* seconds for a reply */
     bool is_lost, is_mounted; /* mounted: its loss is worth a line */
     struct {
-        const char *replies[OWED_MOST]; /* what has to come, and nobody awaits: a ring */
+        char replies[OWED_MOST][REPLY_ROOM]; /* what has to come, and nobody awaits: a ring */
         unsigned from, count;
     } owed;
     struct {
@@ -40,8 +41,11 @@ void tree_say_bytes(struct tree *tree, const char *bytes, size_t count);
  * that line. */
 const char *tree_hear(struct tree *tree, const char **call);
 
-/* Sends the line that was said; nobody awaits its reply, which can only be this one. (If another comes, it's lost.) */
+/* Nobody awaits the reply of the line that was said, which can only be this one. (If another comes, the tree is lost.) It
+ * is sent before the next line that has its reply awaited, or when there is nothing else to do. */
 void tree_leave(struct tree *tree, const char *reply);
+bool tree_has_unsent(const struct tree *tree);
+void tree_send(struct tree *tree);
 
 /* Ends the input, and waits until the child has ended, at most some seconds. Whether it has ended well. */
 bool tree_end(struct tree *tree, int seconds);
