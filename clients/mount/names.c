@@ -61,20 +61,16 @@ static const struct name *name_looked_up(const struct session *session, const st
 }
 
 int paths_of(struct session *session, const struct node *node, char (**paths)[PATH_ROOM], size_t *count) {
-    const struct name *only = node->names != NULL && node->names->next != NULL ? name_looked_up(session, node) : node->names;
     size_t names = 0;
-    *count = 0, *paths = NULL;
     for (const struct name *it = node->names; it != NULL; it = it->next) names++;
-    if (node->number == ROOT || only != NULL) names = 1;
     if (names == 0) return -ENOENT;
+    const struct name *only = names == 1 ? node->names : name_looked_up(session, node);
     *paths = calloc(names, sizeof **paths);
     if (*paths == NULL) return -ENOMEM;
     int fault = 0;
-    if (node->number == ROOT) fault = path_below(&session->nodes, ROOT, NULL, (*paths)[(*count)++]);
-    else if (only != NULL) fault = path_below(&session->nodes, only->parent, only->text, (*paths)[(*count)++]);
-    else
-        for (const struct name *it = node->names; it != NULL && fault == 0; it = it->next)
-            fault = path_below(&session->nodes, it->parent, it->text, (*paths)[(*count)++]);
+    *count = 0;
+    for (const struct name *it = node->names; it != NULL && fault == 0; it = it->next)
+        if (only == NULL || it == only) fault = path_below(&session->nodes, it->parent, it->text, (*paths)[(*count)++]);
     if (fault != 0) free(*paths);
     return fault;
 }
@@ -86,8 +82,11 @@ static void say_stat(struct session *session, const struct node *node, const cha
     char reply[REPLY_ROOM] = "refused 3 ENOENT";
     if (node != NULL)
         snprintf(reply, sizeof reply, "stat %lu %s %ld %lu", node->number, word_of(node->mode), (long)node->in_tree, node->links);
-    tree_say(&session->tree, "stat %s", path);
+    char call[PATH_ROOM + sizeof "stat "];
+    snprintf(call, sizeof call, "stat %s", path);
+    tree_say(&session->tree, "%s", call);
     tree_leave(&session->tree, reply);
+    log_line(session, call, reply);
 }
 
 static void reply_missing(fuse_req_t request) {
@@ -290,7 +289,7 @@ static void move_names(struct session *session, unsigned long parent, const char
                        const char *new_name, bool is_exchange) {
     struct node *moved = node_named(&session->nodes, parent, name);
     struct node *other = node_named(&session->nodes, new_parent, new_name);
-    if (moved == other) return;
+    if (moved == NULL || moved == other) return;
     drop_name(&session->nodes, parent, name);
     drop_name(&session->nodes, new_parent, new_name);
     bool named = add_name(&session->nodes, moved, new_parent, new_name);

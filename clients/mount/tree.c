@@ -25,7 +25,7 @@
 /* A lost tree that isn't stopped ends by itself within this time. */
 #define LOST_SECONDS 1
 
-static const char full[] = "refused 21 HistoryFull", late[] = "landtree gave no reply";
+static const char full[] = "refused 21 HistoryFull";
 
 static long milliseconds(void) {
     struct timespec now;
@@ -77,12 +77,22 @@ static const char *first_line(const struct tree *tree, size_t from, char shown[S
 /* No later reply would be the right one, so there is none. */
 static void lose(struct tree *tree, const char *reason) {
     char shown[SHOWN + 1];
-    if (!tree->is_lost && tree->is_mounted && reason == late)
-        fault("%s in %d s (%s): every call fails now with EIO", reason, tree->wait, first_line(tree, tree->out.heard, shown));
-    else if (!tree->is_lost && tree->is_mounted)
+    if (!tree->is_lost && tree->is_mounted)
         fault("%s (%s): every call fails now with EIO", reason, first_line(tree, tree->out.heard, shown));
     tree->is_lost = true;
     shutdown(tree->socket, SHUT_RDWR);
+}
+
+static void lose_late(struct tree *tree) {
+    char reason[64];
+    snprintf(reason, sizeof reason, "landtree gave no reply in %d s", tree->wait);
+    lose(tree, reason);
+}
+
+static void lose_wrong(struct tree *tree, const char *reply, const char *want) {
+    char reason[2 * SHOWN];
+    snprintf(reason, sizeof reason, "landtree answers %.*s where only %s is right", SHOWN, reply, want);
+    lose(tree, reason);
 }
 
 static void *room_for(struct tree *tree, size_t more) {
@@ -132,7 +142,7 @@ static bool receive(struct tree *tree, int flags) {
     }
     if (tree->in.to == REPLIES_ROOM) return lose(tree, "a reply without an end"), false;
     ssize_t got = recv(tree->socket, tree->in.bytes + tree->in.to, REPLIES_ROOM - tree->in.to, flags);
-    if (got < 0 && errno == EAGAIN && flags == 0) return lose(tree, late), false;
+    if (got < 0 && errno == EAGAIN && flags == 0) return lose_late(tree), false;
     if (got < 0 && (errno == EAGAIN || errno == EINTR)) return true;
     if (got <= 0) return lose(tree, "landtree has ended"), false;
     tree->in.to += (size_t)got;
@@ -156,7 +166,7 @@ static bool proceed(struct tree *tree, long deadline) {
     long left = deadline - milliseconds();
     struct pollfd it = {tree->socket, POLLIN | POLLOUT, 0};
     int ready = left > 0 ? poll(&it, 1, (int)left) : 0;
-    if (ready == 0) return lose(tree, late), false;
+    if (ready == 0) return lose_late(tree), false;
     if (ready < 0) return true; /* a signal came */
     if (it.revents & (POLLIN | POLLHUP | POLLERR) && !receive(tree, MSG_DONTWAIT)) return false;
     return !(it.revents & POLLOUT) || send_some(tree);
@@ -179,7 +189,7 @@ static void take_owed(struct tree *tree, long deadline) {
     while (!tree->is_lost && tree->owed.count != 0) {
         const char *reply = next_reply(tree, deadline), *want = tree->owed.replies[tree->owed.from];
         if (reply == NULL) return;
-        if (strcmp(reply, want) != 0 && strcmp(reply, full) != 0) lose(tree, "landtree answers what it can't");
+        if (strcmp(reply, want) != 0 && strcmp(reply, full) != 0) lose_wrong(tree, reply, want);
         tree->owed.from = (tree->owed.from + 1) % OWED_MOST;
         tree->owed.count--;
     }

@@ -403,6 +403,41 @@ def denials():
     }
 
 
+NAMES = ["open/f", "shut/f", "granted/f", "denied/f", "open/new", "shut/new", "granted/new", "open/d", "shut/d", "open", "granted"]
+READ_ONLY, WRITE_ONLY = os.O_RDONLY, os.O_WRONLY
+
+
+def call_under_a_profile(chance):
+    """A call whose denial the kernel and the tree agree in, as they ask for the same: no creation by an opening, no name
+    onto itself."""
+    one, two = chance.sample(NAMES, 2)
+    calls = {
+        "read": lambda: opened(one, READ_ONLY | os.O_NOFOLLOW),
+        "write": lambda: opened(one, WRITE_ONLY),
+        "open and cut": lambda: opened(one, WRITE_ONLY | os.O_TRUNC),
+        "cut": lambda: os.truncate(one, 0),
+        "list": lambda: sorted(os.listdir(one)),
+        "mkdir": lambda: os.mkdir(one),
+        "mknod": lambda: os.mknod(one, 0o100644),
+        "symlink": lambda: os.symlink("nowhere", one),
+        "unlink": lambda: os.unlink(one),
+        "rmdir": lambda: os.rmdir(one),
+        "rename": lambda: os.rename(one, two),
+        "exchange": lambda: rename2(one, two, EXCHANGE),
+        "link": lambda: os.link(one, two, follow_symlinks=False),
+        "stat": lambda: stat.S_IFMT(os.lstat(one).st_mode),
+    }
+    name = chance.choice(list(calls))
+    return f"{name} {one} {two}", calls[name]
+
+
+def under_a_profile(seed, count):
+    """The outcomes of random calls in the working directory."""
+    chance = random.Random(int(seed))
+    them = [call_under_a_profile(chance) for _ in range(int(count))]
+    return [[text, outcome(call)] for text, call in them]
+
+
 def kept_right():
     """A descriptor keeps what its opening found, across a fork too."""
     descriptor = os.open("open/w", os.O_RDWR)
@@ -424,6 +459,12 @@ def wait_for(path, then):
     began = time.monotonic()
     acts = {"list": lambda: os.listdir("."), "make": lambda: os.mkdir("d"), "read": lambda: open("x").read()}
     return [[outcome(acts[it]) for it in then.split(",")], time.monotonic() - began]
+
+
+def lied_to():
+    """Looks a name up of which the tree says nonsense, and then makes a directory."""
+    os.path.exists("lie")
+    return [outcome(os.mkdir, "d"), outcome(os.listdir, ".")]
 
 
 def fill(count):

@@ -1,6 +1,6 @@
 #!/usr/bin/env python3
 """A program in the place of `landtree run -`: it passes lines on to the real one (LANDTREE_REAL), and answers itself
-what it is asked by a name: `unlink /reply-REPLY`, where a dot is a space. With LANDTREE_HISTORY it becomes the real one,
+what it is asked by a name: `unlink /reply-REPLY`, where a dot is a space; it says nonsense of `stat /lie`. With LANDTREE_HISTORY it becomes the real one,
 with room for so many entries."""
 
 import os
@@ -18,6 +18,8 @@ for line in sys.stdin.buffer:
     asked = line.decode().split("/reply-")
     if line.startswith(b"unlink ") and len(asked) == 2:
         reply = asked[1].replace(".", " ").encode()
+    elif line == b"stat /lie\n":
+        reply = b"stat 99 reg 7 1\n"
     else:
         child.stdin.write(line)
         child.stdin.flush()
