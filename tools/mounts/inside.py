@@ -428,14 +428,22 @@ def call_under_a_profile(chance):
         "stat": lambda: stat.S_IFMT(os.lstat(one).st_mode),
     }
     name = chance.choice(list(calls))
-    return f"{name} {one} {two}", calls[name]
+    return name, one, two, calls[name]
+
+
+def is_same(one, two):
+    """Whether both are names of one file. Moves of it onto itself the kernel answers alone, before it asks a mount."""
+    return outcome(lambda: os.lstat(one).st_ino == os.lstat(two).st_ino) is True
 
 
 def under_a_profile(seed, count):
     """The outcomes of random calls in the working directory."""
-    chance = random.Random(int(seed))
-    them = [call_under_a_profile(chance) for _ in range(int(count))]
-    return [[text, outcome(call)] for text, call in them]
+    chance, found = random.Random(int(seed)), []
+    for _ in range(int(count)):
+        name, one, two, call = call_under_a_profile(chance)
+        if not (name in ("rename", "exchange") and is_same(one, two)):
+            found.append([f"{name} {one} {two}", outcome(call)])
+    return found
 
 
 def kept_right():
