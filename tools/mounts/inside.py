@@ -8,7 +8,6 @@ import mmap
 import multiprocessing
 import os
 import random
-import socket
 import stat
 import subprocess
 import sys
@@ -72,6 +71,13 @@ def shared_map():
 
     with_descriptor("mapped", os.O_RDWR | os.O_CREAT, store)
     return open("mapped", "rb").read(3).decode()
+
+
+def copied_range():
+    def copy(to):
+        return with_descriptor("f", os.O_RDONLY, lambda it: os.copy_file_range(it, to, 4))
+
+    return with_descriptor("g", os.O_CREAT | os.O_WRONLY, copy)
 
 
 def unlinked():
@@ -179,7 +185,7 @@ def rows():
         "RENAME_EXCHANGE": outcome(lambda: [rename2("f", "d", EXCHANGE), rename2("f", "d", EXCHANGE)]),
         "fsync": outcome(with_descriptor, "f", os.O_RDWR, os.fsync),
         "flock": outcome(with_descriptor, "f", os.O_RDWR, lambda it: fcntl.flock(it, fcntl.LOCK_EX | fcntl.LOCK_NB)),
-        "copy_file_range": outcome(with_descriptor, "f", os.O_RDONLY, lambda it: with_descriptor("g", os.O_CREAT | os.O_WRONLY, lambda to: os.copy_file_range(it, to, 4))),
+        "copy_file_range": outcome(copied_range),
         "a shared map": outcome(shared_map),
         "O_PATH": outcome(opened, "f", os.O_PATH),
         "an unlinked file": outcome(unlinked),
@@ -348,7 +354,7 @@ def race(seconds):
         process.start()
         return process
 
-    them = [start("in it", lambda: open("f").read() + (os.getcwd() and ""), "x/d/e")]
+    them = [start("in it", lambda: [os.getcwd(), open("f").read()][1], "x/d/e")]
     time.sleep(0.2)
     them += [start("one way", lambda: os.rename("x/d", "y/d")), start("the other", lambda: os.rename("y/d", "x/d"))]
     them += [start("exchange", lambda: str(rename2("x", "y", EXCHANGE))), start("read", read_both)]
