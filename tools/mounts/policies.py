@@ -6,6 +6,7 @@ import re
 import shutil
 import subprocess
 import sys
+from pathlib import Path
 
 from fuzzing.program import holds, same
 from linux import system
@@ -33,6 +34,37 @@ def write_project(folder, name):
         (folder / "Makefile").write_text("# changed\n")
 
 
+def rules_below(text, top):
+    """The rules of a policy on what is at a path or below it, as a table of rights by the path from there on."""
+    rules = re.findall(r'path = "(.*)"\nrights = "(.*)"', text)
+    return {path[len(top) :].strip("/"): rights for path, rights in rules if f"{path}/".startswith(f"{top}/")}
+
+
+def is_straced():
+    """Whether strace may be used here."""
+    return shutil.which("strace") and not subprocess.run(["strace", "-o", "/dev/null", "true"], capture_output=True).returncode
+
+
+def rules_by_strace(room, command):
+    """The rules that the package in Python learns from a run of the command in a copy of the directory."""
+    copy = room.folder / "copy"
+    shutil.copytree(room.folder / "real", copy, symlinks=True)
+    package = str(TOOLS.parent.parent / "clients/python")
+    env = {**os.environ, "PYTHONPATH": package, "PATH": f"{Path(room.program).parent}:{os.environ['PATH']}"}
+
+    def run(*words):
+        ran = subprocess.run([sys.executable, "-B", "-m", "landtree", *words], cwd=copy, env=env, capture_output=True, text=True)
+        same(ran.returncode, 0, f"how {words[0]} ends ({ran.stderr[-300:]})")
+        return ran.stdout
+
+    run("record", "--to", "../run.log", "--", "bash", "-c", command)
+    run("convert", "../run.log")
+    nodes = (room.folder / "run.nodes.toml").read_text()
+    there = [it for it in ("/usr", "/etc", "/proc", sys.prefix) if f'path = "{it}"\n' in nodes]
+    beneath = [word for it in there for word in ("--beneath", it)]
+    return rules_below(run("learn", "../run.check", "--policy", "../run.nodes.toml", "--name", "p", *beneath), str(copy))
+
+
 def learned_and_confined(room, name):
     programs, command = PROJECTS[name]
     needs("bash", *programs.split())
@@ -50,26 +82,30 @@ def learned_and_confined(room, name):
     same(harm.status, 1, "how rm ends under what was learned")
     same(len(harm.lines), 1, "how many lines say that it was denied")
     holds(re.fullmatch(r"denied: rm\[\d+\]: unlink /src/a.c: EACCES layer 1 remove_file at", harm.lines[0]), harm.lines[0])
+    if not is_straced():
+        return "without strace's rules"
+    same(rules_below(policy.read_text(), ""), rules_by_strace(room, command), "the rules of the mount and of strace")
+    return "the same rules as by strace"
 
 
 def make_is_learned(room, seed):
     """What make did is learned from the saved history, and make runs under it; rm is denied."""
-    learned_and_confined(room, "make")
+    return learned_and_confined(room, "make")
 
 
 def git_is_learned(room, seed):
     """The same with a commit."""
-    learned_and_confined(room, "git")
+    return learned_and_confined(room, "git")
 
 
 def python_is_learned(room, seed):
     """The same with a program of two modules."""
-    learned_and_confined(room, "python")
+    return learned_and_confined(room, "python")
 
 
 def sqlite_is_learned(room, seed):
     """The same with a data base."""
-    learned_and_confined(room, "sqlite")
+    return learned_and_confined(room, "sqlite")
 
 
 POLICY = """
