@@ -48,7 +48,7 @@ Output = Dict[str, Written]
 
 @contextlib.contextmanager
 def kept(folder: Path, run: str) -> Iterator[Output]:
-    """Keeps what is written to the streams of this process meanwhile. It is known once this has ended."""
+    """Keeps what is written to the streams of this process during a block. It is known after the block."""
     output: Output = {}
     with contextlib.ExitStack() as stack:
         for descriptors in streams():
@@ -152,11 +152,13 @@ class PipeKeeper(Keeper):
 
     def pass_on(self, source: int, target: int) -> None:
         """Passes on what comes until its end, or until nobody takes it: then its writer gets to know that too."""
-        with open(self.file, "wb") as file, contextlib.suppress(BrokenPipeError):
-            for data in iter(lambda: self.next_of(source), b""):
-                self.keep_some(file, data)
-                write_all(target, data)
-        os.close(source)
+        try:
+            with open(self.file, "wb") as file, contextlib.suppress(OSError):
+                for data in iter(lambda: self.next_of(source), b""):
+                    self.keep_some(file, data)
+                    write_all(target, data)
+        finally:
+            os.close(source)
 
     def next_of(self, source: int) -> bytes:
         self.waits_since = time.monotonic()

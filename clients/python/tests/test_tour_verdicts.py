@@ -168,6 +168,12 @@ class Differences(Verdicts):
         self.assertEqual(ended.stdout.splitlines()[0], "y")
         self.assertNotIn("Traceback", ended.stderr)
 
+    def test_a_full_device(self):
+        with open("/dev/full", "wb") as full:
+            ended = self.tour("yes | head -100000", stdout=full, stderr=subprocess.PIPE, capture_output=False)
+        self.assertEqual(ended.returncode, 128 + signal.SIGPIPE, ended.stderr)
+        self.assertNotIn("Traceback", ended.stderr)
+
     def test_a_terminal(self):
         control, terminal = pty.openpty()
         self.addCleanup(os.close, control)
