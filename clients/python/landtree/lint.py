@@ -11,9 +11,9 @@ from .names import is_in
 from .options import File
 from .places import Mapped
 from .policy import Layer, Policy, ancestors
-from .policy_text import load_policy, read_policy
+from .policy_text import read_policy
 from .reach import Reach, Replacement
-from .trace.conversion import convert
+from .trace import files_only_read
 from .values import MAKE_RIGHTS, Rights, rights_of_level
 
 # What no layer of the levels 1 to 3 restricts (docs/LINUX.md has the whole list).
@@ -202,12 +202,4 @@ def some_of(texts: Sequence[str]) -> str:
 
 def only_read(log: File) -> OnlyRead:
     """Returns what a run has only read. A log that `record` hasn't made is a `Fault`."""
-    converted = convert(log, whole=True)
-    files = [it.path for it in load_policy(converted.nodes).nodes if it.kind == "reg"]
-    read: Set[str] = set()
-    changed: Set[str] = set()
-    for line in converted.checks.splitlines():
-        command, *words = line.partition(" = ")[0].split(" ")
-        is_reading = command in ("exec", "list", "stat") or (command == "open" and words[:1] == ["r"])
-        (read if is_reading else changed).update(it for it in words if it.startswith("/"))
-    return OnlyRead(os.fspath(log), [it for it in files if it in read and it not in changed])
+    return OnlyRead(os.fspath(log), files_only_read(log))
