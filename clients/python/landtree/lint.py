@@ -187,6 +187,8 @@ def beyond_findings(name: str, layers: Sequence[Layer], seen: OnlyRead) -> Itera
         above = path[: path.rindex("/")] or "/"
         if Rights.WRITE_FILE in reach.rights(path):
             above = max((it for it in writable if is_in(path, it)), key=len, default="/")
+            if above == path:
+                continue  # A rule of its own: it is meant to be written.
         elif (Rights.REMOVE_FILE | Rights.MAKE_REG) & ~reach.rights(above):
             continue
         found.setdefault(above, []).append(path[len(above.rstrip("/")) + 1 :])

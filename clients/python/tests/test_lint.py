@@ -2,8 +2,9 @@
 
 from tests.support import PROGRAM, Case, needs_landlock, needs_strace
 
-from landtree import Commands, Policy, Rights
-from landtree.lint import OPEN, lint
+from landtree import Commands, Layer, Policy, Rights, Rule
+from landtree.lint import OPEN, beyond_findings, lint
+from landtree.lint import OnlyRead as Seen
 from landtree.places import Mapped
 
 LEVEL = Rights.ALL
@@ -161,6 +162,16 @@ class Replacing(Linted):
         self.assertEqual([it for it in self.found() if "the next start" in it], [])
         layer.handled = Rights.WRITE_FILE
         self.assertEqual(len([it for it in self.found() if "the next start" in it]), 1)
+
+
+class ReadFiles(Case):
+    def test_a_rule_of_its_own(self):
+        writes = Rights.WRITE_FILE
+        seen = Seen("run.log", ["/w/f", "/w/g"])
+        found = beyond_findings("p", [Layer(writes, [Rule("/w", writes), Rule("/w/f", writes)])], seen)
+        self.assertEqual([str(it) for it in found], ["profile p: /w may be written, where the run only read g (run.log)"])
+        layer = Layer(writes | Rights.REMOVE_FILE | Rights.MAKE_REG, [Rule("/w/f", writes)])
+        self.assertEqual(list(beyond_findings("p", [layer], seen)), [])
 
 
 class OwnPolicy(Linted):

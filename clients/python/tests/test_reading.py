@@ -1,4 +1,4 @@
-"""Which files a program only read, and which of these a profile lets it write."""
+"""Which files a program only read."""
 
 import json
 import os
@@ -6,11 +6,8 @@ import os
 from tests.support import Case
 from tests.traces import Tracing
 
-from landtree import Layer, Rights, Rule
-from landtree.trace import convert, files_only_read, made_writable
-from landtree.trace.reach import only_read
-
-WRITES, READS = Rights.WRITE_FILE, Rights.READ_FILE
+from landtree.trace import convert, files_only_read
+from landtree.trace.reading import only_read
 
 
 class OnlyRead(Tracing):
@@ -35,25 +32,7 @@ class OnlyRead(Tracing):
             self.assertEqual(only_read(self.read(*first, call, files={"/w/n": "reg"}).events), ["/w/g"], call)
 
 
-class Writable(Case):
-    def layer(self, handled=WRITES | READS, **rules):
-        return Layer(handled, [Rule(f"/{path.replace('_', '/')}", rights) for path, rights in rules.items()])
-
-    def test_by_a_directory(self):
-        layer = self.layer(w=WRITES | READS, w_src=WRITES, usr=READS)
-        files = ["/usr/a", "/w/Makefile", "/w/src/a", "/w/src/b/c", "/wide"]
-        wanted = [("/w", ["/w/Makefile"]), ("/w/src", ["/w/src/a", "/w/src/b/c"])]
-        self.assertEqual(made_writable([layer], files), wanted)
-        self.assertEqual(made_writable([Layer(WRITES, [Rule("/", WRITES)])], ["/a/b"]), [("/", ["/a/b"])])
-
-    def test_each_layer_must_grant_it(self):
-        wide, narrow, other = self.layer(w=WRITES), self.layer(w_f=WRITES), self.layer(READS, w=READS)
-        self.assertEqual(made_writable([wide, narrow, other], ["/w/f", "/w/g"]), [("/w", ["/w/f"])])
-        # By a rule of its own it is meant to be written, and where nothing handles the right lint has other words.
-        self.assertEqual(made_writable([narrow], ["/w/f"]), [])
-        self.assertEqual(made_writable([other], ["/w/f"]), [])
-        self.assertEqual(made_writable([], ["/w/f"]), [])
-
+class Recorded(Case):
     def test_a_recording(self):
         log = self.put("run.log", '7 open("a b", O_RDONLY) = 3</w/a b>\n7 +++ exited with 0 +++\n')
         entries = {"/w": ["dir", None, None], "/w/a b": ["reg", None, None]}
