@@ -282,8 +282,8 @@ module _ (s : State) (tree : IsTree s) (q handled : ℕ) where
           ++ refuse (is_none (is.named i)) ENOENT
 
       fits : after_policy (with_all s m) (holder layer []) (call_of rule) ≡ []
-      fits = λ i. is.free layer same i
-          ++ refuse (lt-leb RULESET_INODES (len layer.rules) few i && not (has layer.rules (inode_of s rule.path))) E2BIG
+      fits = λ i. is.free layer same i ++ refuse
+          (lt-leb RULESET_INODES (len layer.rules) few i && not (has layer.rules (inode_of s rule.path))) E2BIG
 
   each : (rules : List LearnedRule) (m : Map nat_cmp ClientRecord) (layer : Layer) → layer.handled ≡ handled
       → All (IsTaken s handled) rules → len layer.rules + length rules ≤ RULESET_INODES

@@ -36,7 +36,8 @@ pub record IsEnforced (s : State) (client : ℕ) (profile : LearnedProfile) : Ty
   pub accepted : IsLegal s (accepted_calls client (calls_of profile))
   pub layer : Layer
   pub spelt : IsOfProfile profile layer
-  pub state : state_after s (accepted_calls client (calls_of profile)) ≡ with_client s client (record (client_of s client) {
-    domain = (client_of s client).domain ++ layer ∷ [];
-    rulesets = (client_of s client).rulesets ++ layer ∷ [];
-  })
+  pub state : state_after s (accepted_calls client (calls_of profile))
+      ≡ with_client s client (record (client_of s client) {
+        domain = (client_of s client).domain ++ layer ∷ [];
+        rulesets = (client_of s client).rulesets ++ layer ∷ [];
+      })

@@ -5,7 +5,7 @@ recorded. It decides nothing about rights: `landtree learn` does that, from the 
 """
 
 from .conversion import Converted, convert
-from .reading import files_only_read
+from .inputs import files_only_read
 from .recording import Recording, record
 
 __all__ = ["Converted", "Recording", "convert", "files_only_read", "record"]

@@ -10,7 +10,7 @@ from typing import Dict, List, Optional, Tuple
 from ..values import DIRECTORY_NAMES
 from .events import Note
 from .files import write_all
-from .reading import only_read
+from .inputs import only_read
 from .recording import read_recorded
 from .rehearsal import rehearsed
 from .slim import slimmed

@@ -7,7 +7,7 @@ from tests.support import Case
 from tests.traces import Tracing
 
 from landtree.trace import convert, files_only_read
-from landtree.trace.reading import only_read
+from landtree.trace.inputs import only_read
 
 
 class OnlyRead(Tracing):
