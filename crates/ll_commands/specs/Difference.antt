@@ -36,7 +36,7 @@ abbrev pub seen_in : State → (client : ℕ) → Seen
 seen_in s client = (s, (client_of s client).domain)
 
 -- The difference of the profile's rights, from the policy with the first text to the one with the second: the lines of
--- the paths, or without any of both policies' nodes; and whether there is a difference
+-- the paths, or without any of the root and both policies' nodes; and whether there is a difference
 abbrev pub IsDifference : RightsOrder → (old profile : Text) → (was is : List ℕ) → (found : Bool) → (lines : List ℕ)
     → Type 0
 IsDifference order old profile was is found lines =

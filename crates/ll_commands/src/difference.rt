@@ -70,7 +70,7 @@ fn view_of(opened: &Opened) -> View<'_>
     }
 }
 
-// Returns the differences at the given paths, or by default at the nodes of both policies.
+// Returns the differences at the given paths, or by default at the root and the nodes of both policies.
 fn differences_in(
     alloc: Global,
     before: &OpenedSetup,
