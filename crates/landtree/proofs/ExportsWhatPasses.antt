@@ -1,9 +1,10 @@
 -- What a check under the exported profile tells of each section.
 use Rattle.std.proofs.Common.{◌≡◌, ◌∙◌, ℕ, ◌+◌, Bool, true, false, cond, not, List, [], ◌∷◌, length, map, Option, Some}
-use Rattle.std.proofs.Common.{None, Ok, refl, sym, ap, subst, arith, eqb, inl, inr}
+use Rattle.std.proofs.Common.{None, refl, sym, ap, subst, arith, eqb, inl, inr}
+use Rattle.std.specs.Prelude.{if◌then◌else◌}
 use Rattle.std.specs.List.{AllByRecursion, AllZip}
+use Rattle.std.proofs.lemmas.Bool.{eqb-true}
 use Rattle.std.proofs.lemmas.List.Sums.{sum_by-cons}
-use Rattle.ll_seq.specs.declared.reply.Entry.{Entry}
 use Rattle.ll_seq.specs.declared.reply.Reply.{Reply}
 use Rattle.ll_session.specs.CallsRun.{Makes}
 use Rattle.ll_session.specs.declared.calls_run.CallReplies.{CallReplies}
@@ -11,49 +12,46 @@ use Rattle.ll_session.specs.declared.calls_run.CallReplies.TheVariants.{Answered
 use Rattle.ll_session.specs.declared.setup.Setup.{Setup}
 use Rattle.ll_program.specs.Options.{ExportOrder, checked_tree}
 use Rattle.ll_program.specs.Policy.{IsSetup}
-use Rattle.ll_program.specs.declared.checked.Checked.TheVariants.{Passed}
-use Rattle.ll_program.specs.declared.conclusion.Conclusion.TheVariants.{Done}
+use Rattle.ll_program.specs.declared.checked.Checked.TheVariants.{Failed, Passed}
 use Rattle.ll_check.specs.declared.check_text.Test.{Test}
-use Rattle.ll_check.specs.declared.reporter.Style.{Style}
 use Rattle.ll_check.specs.declared.reporter.Tally.{Tally}
 use Rattle.ll_check.specs.Checks.{Own, Tests, has_test}
-use Rattle.ll_check.specs.Ends.{IsSource}
 use Rattle.ll_check.specs.Files.{AreChecked, AreTestsChecked, AreTestsIn, Concludes, IsCheck, IsFileChecked, IsSetFor}
 use Rattle.ll_check.specs.Files.{Source, end_of, room_for, style_of}
 use Rattle.ll_check.specs.Report.{CountsUntested, IsJudged, Judged, Tells, failed}
 use Rattle.ll_check.specs.Wanted.{Satisfies}
-use Rattle.landtree.specs.Checked.{EndsChecked, ExportsWhatPasses, PassesUnder, check_of}
+use Rattle.landtree.specs.Checked.{ExportsWhatPasses, PassesUnder, check_of}
 
--- if none fails, each reply is as expected
-each_passes : (verdicts : List Judged) → AllByRecursion IsJudged verdicts → failed verdicts ≡ 0
-    → AllZip (λ (test : Test) (got : Reply). Satisfies test.wanted got) (map (λ (it : Judged). it.test) verdicts)
-    (map (λ (it : Judged). it.reply) verdicts)
+-- each reply to the tests of these verdicts is as expected
+abbrev AreMet : List Judged → Type 0
+AreMet verdicts = AllZip (λ (test : Test) (got : Reply). Satisfies test.wanted got)
+    (map (λ (it : Judged). it.test) verdicts) (map (λ (it : Judged). it.reply) verdicts)
+
+-- if none fails
+each_passes : (verdicts : List Judged) → AllByRecursion IsJudged verdicts → failed verdicts ≡ 0 → AreMet verdicts
 each_passes [] all none = tt
-each_passes (it ∷ verdicts) all none = go it.passes refl
+each_passes (it ∷ verdicts) all none = go it.passes refl (each_passes verdicts all.1)
   where
     one : failed (it ∷ verdicts) ≡ cond (not it.passes) 1 0 + failed verdicts
     one = sum_by-cons (λ (j : Judged). cond (not j.passes) 1 0) it verdicts
 
-    go : (b : Bool) → it.passes ≡ b
-        → AllZip (λ (test : Test) (got : Reply). Satisfies test.wanted got)
-        (map (λ (j : Judged). j.test) (it ∷ verdicts)) (map (λ (j : Judged). j.reply) (it ∷ verdicts))
-    go true e =
+    go : (b : Bool) → it.passes ≡ b → (failed verdicts ≡ 0 → AreMet verdicts) → AreMet (it ∷ verdicts)
+    go true e rest =
         let zero : failed (it ∷ verdicts) ≡ 0 + failed verdicts =
         one ∙ ap (λ (b : Bool). cond (not b) 1 0 + failed verdicts) e in
-        let rest : failed verdicts ≡ 0 = omega (arith, zero, none) in
-        (all.0.0 e, each_passes verdicts all.1 rest)
-    go false e =
+        (all.0.0 e, rest (omega (arith, zero, none)))
+    go false e rest =
         let some : failed (it ∷ verdicts) ≡ 1 + failed verdicts =
         one ∙ ap (λ (b : Bool). cond (not b) 1 0 + failed verdicts) e in
         absurd (omega (arith, some, none))
 
 -- the sum of a check that passed has no failed test
 none_failed : (sum : Tally) → Passed ≡ end_of sum → sum.failed ≡ 0
-none_failed sum e = go sum.failed refl
+none_failed sum = go (eqb sum.failed 0) refl
   where
-    go : (n : ℕ) → sum.failed ≡ n → sum.failed ≡ 0
-    go 0 is = is
-    go (suc n) is = absurd cc
+    go : (b : Bool) → eqb sum.failed 0 ≡ b → Passed ≡ (if b then Passed else Failed) → sum.failed ≡ 0
+    go true is e = eqb-true sum.failed 0 is
+    go false is e = absurd cc
 
 module _ (order : ExportOrder) (policy : List ℕ) where
   -- without policies of sections, a section's tree has the policy and the profile of the words

@@ -145,8 +145,27 @@ fn tables_of<N: ProfileNotes>(
     Ok(text)
 }
 
-// Returns the tables of all profiles of the policy with this text, on these paths.
+// Returns the tables of all profiles of the policy, on these paths.
 fn tables_by<N: ProfileNotes>(
+    alloc: Global,
+    options: &RightsOptions,
+    read: &ReadPolicy<'_>,
+    paths: &[Path],
+    notes: &mut N,
+) -> Result<String, Failure>
+    requires { paths.now ≡ map path_of_text (rights_in options.now).paths }
+    ensures tables { IfOk result (λ tables.
+        IsAllTables (rights_in options.now) read.now.text.now (string_bytes tables)) }
+    ensures failure { IfErr result (LacksTables (rights_in options.now) read.now.text.now) }
+{
+    match read.policy.names(alloc) {
+        Ok(names) => tables_of(alloc, options, read, paths, names.as_slice(), notes),
+        Err(_) => Err(Failure::NoMemory),
+    }
+}
+
+// Returns the tables of all profiles of the policy with this text, on these paths.
+fn tables_in<N: ProfileNotes>(
     alloc: Global,
     options: &RightsOptions,
     text: &[u8],
@@ -159,10 +178,7 @@ fn tables_by<N: ProfileNotes>(
 {
     let policy = policy_of(alloc, text)?;
     let read = ReadPolicy { text, policy };
-    match read.policy.names(alloc) {
-        Ok(names) => tables_of(alloc, options, &read, paths, names.as_slice(), notes),
-        Err(_) => Err(Failure::NoMemory),
-    }
+    tables_by(alloc, options, &read, paths, notes)
 }
 
 /// Returns the tables of all profiles that the options ask for, by the policy in this file. Errors: a word spells no
@@ -181,7 +197,7 @@ pub fn all_tables<R: Read, N: ProfileNotes>(
 {
     let paths = paths_of(alloc, options.paths.as_slice())?;
     let text = read_text(alloc, file)?;
-    tables_by(alloc, options, text.as_slice(), paths.as_slice(), notes)
+    tables_in(alloc, options, text.as_slice(), paths.as_slice(), notes)
 }
 
 /// Writes the tables of all profiles that the options ask for, by the policy in this file. Writes nothing before they

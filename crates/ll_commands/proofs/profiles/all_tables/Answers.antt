@@ -20,8 +20,8 @@ returns-in_err-paths-clause-failure g c =
           (c.in_err-paths.ensures.bad e)),
     ))
 
-pub tables_by-requires : goal.tables_by-requires
-tables_by-requires g c =
+pub tables_in-requires : goal.tables_in-requires
+tables_in-requires g c =
     c.as_slice-3.ensures.value ∙ c.in_ok-paths.ensures.paths
     ∙ ap (λ (l : List (Bor (List ℕ))). map path_of_text (map (λ w. w.now) l)) c.as_slice.ensures.value
 
@@ -35,11 +35,11 @@ pub returns-clause-tables : goal.returns-clause-tables
 returns-clause-tables g c =
     let same = same_text (g.R.Read.remaining c.args.file.now) c.as_slice-2.result.now c.in_ok-text.text.items
     c.as_slice-2.ensures.value c.in_ok-text.ensures.text in
-    IfOk-weaker c.tables_by.result _ _ (λ tables are. (c.as_slice-2.result.now, same, are)) c.tables_by.ensures.tables
+    IfOk-weaker c.tables_in.result _ _ (λ tables are. (c.as_slice-2.result.now, same, are)) c.tables_in.ensures.tables
 
 pub returns-clause-failure : goal.returns-clause-failure
 returns-clause-failure g c =
     let same = same_text (g.R.Read.remaining c.args.file.now) c.as_slice-2.result.now c.in_ok-text.text.items
     c.as_slice-2.ensures.value c.in_ok-text.ensures.text in
-    IfErr-weaker c.tables_by.result _ _ (λ failure lacks. (c.as_slice-2.result.now, same, lacks))
-    c.tables_by.ensures.failure
+    IfErr-weaker c.tables_in.result _ _ (λ failure lacks. (c.as_slice-2.result.now, same, lacks))
+    c.tables_in.ensures.failure

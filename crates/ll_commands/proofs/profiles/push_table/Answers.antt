@@ -1,4 +1,4 @@
-use Rattle.std.proofs.Common.{◌++◌, [], List, ap, append-nil, ℕ, refl, sym, ◌∙◌, string_bytes, ◌≡◌, Err, rules}
+use Rattle.std.proofs.Common.{◌++◌, [], ap, append-nil, refl, sym, ◌∙◌, string_bytes, ◌≡◌, Err, rules}
 use Rattle.ll_commands.specs.Profiles.{heading_in}
 use Rattle.ll_commands.proofs.profiles.push_table.Goals as goal
 
