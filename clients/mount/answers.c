@@ -1,6 +1,7 @@
 /* Replies of the tree as errnos, in the log and on standard error. */
 #include "answers.h"
 #include "faults.h"
+#include "processes.h"
 #include <errno.h>
 #include <stdarg.h>
 #include <stdlib.h>
@@ -40,20 +41,10 @@ static const struct {
     {23, "BadLine", EIO, "unexpected"},
     {24, "Stale", EIO, "unexpected"}};
 
-static void name_of(pid_t process, char name[64]) {
-    char path[64];
-    snprintf(path, sizeof path, "/proc/%d/comm", (int)process);
-    strcpy(name, "?");
-    FILE *file = fopen(path, "re");
-    if (file == NULL) return;
-    if (fgets(name, 64, file) != NULL) name[strcspn(name, "\n")] = 0;
-    fclose(file);
-}
-
 void log_line(struct session *session, const char *call, const char *reply) {
-    char name[64];
+    char name[PROCESS_ROOM];
     if (session->log == NULL) return;
-    name_of(session->asker, name);
+    name_of_process(session->asker, name);
     fprintf(session->log, "%s[%d]: %.*s = %.*s\n", name, (int)session->asker, SHOWN, call, SHOWN, reply);
 }
 
@@ -62,18 +53,18 @@ static bool is_new_kind(struct session *session, const char *call, const char *r
     char kind[KIND_ROOM];
     if (*call == '@') call += strcspn(call, " ") + 1;
     snprintf(kind, sizeof kind, "%.*s %s", (int)strcspn(call, " "), call, reply);
-    for (size_t i = 0; i < session->told_count; i++)
-        if (strcmp(session->told[i], kind) == 0) return false;
-    if (session->told_count == KINDS_MOST) return false;
-    strcpy(session->told[session->told_count++], kind);
+    for (size_t i = 0; i < session->shown_count; i++)
+        if (strcmp(session->shown[i], kind) == 0) return false;
+    if (session->shown_count == KINDS_MOST) return false;
+    strcpy(session->shown[session->shown_count++], kind);
     return true;
 }
 
 static void show_denial(struct session *session, const char *call, const char *why) {
-    char name[64];
+    char name[PROCESS_ROOM];
     if (session->options.is_quiet || !is_new_kind(session, call, why)) return;
     if (*call == '@') call += strcspn(call, " ") + 1;
-    name_of(session->asker, name);
+    name_of_process(session->asker, name);
     fprintf(stderr, "denied: %s[%d]: %.*s: %s\n", name, (int)session->asker, SHOWN, call, why);
 }
 
@@ -89,10 +80,10 @@ static int code_of(struct session *session, const char *call, const char *reply)
     for (size_t i = 0; i < sizeof refusals / sizeof *refusals; i++) {
         if (refusals[i].number != number) continue;
         if (refusals[i].limit != NULL && is_new_kind(session, "", reply))
-            fault("%.*s = %s: %s", SHOWN, call, reply, refusals[i].limit);
+            report("%.*s = %s: %s", SHOWN, call, reply, refusals[i].limit);
         return -refusals[i].code;
     }
-    fault("%.*s = %.*s: no such reply is known", SHOWN, call, SHOWN, reply);
+    report("%.*s = %.*s: no such reply is known", SHOWN, call, SHOWN, reply);
     return -EIO;
 }
 

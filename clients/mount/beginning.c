@@ -35,20 +35,19 @@ static void read_bytes(struct session *session, struct tree *tree, struct node *
     must_hear(tree, session->policy, session->options.policy);
     for (off_t from = 0; from < size; from += PIECE_MOST) {
         char piece[PIECE_MOST];
-        size_t count = 0;
         tree_say(tree, "read 0 %ld %d", (long)from, PIECE_MOST);
         const char *digits = must_hear(tree, session->policy, session->options.policy) + strlen("data ");
-        for (unsigned byte; count < sizeof piece && sscanf(digits, "%2x", &byte) == 1; digits += 2)
-            piece[count++] = (char)byte;
+        size_t count = unspell_bytes(piece, sizeof piece, digits);
         if (keep_bytes(&session->nodes, node, piece, count, from) != 0) give_up("no memory");
     }
     tree_say(tree, "close 0");
     must_hear(tree, session->policy, session->options.policy);
 }
 
-static mode_t first_mode(mode_t kind) { return kind == S_IFDIR ? S_IFDIR | 0755 : kind == S_IFLNK ? S_IFLNK | 0777 : kind | 0755; }
+static mode_t first_mode(mode_t kind) { return kind | (kind == S_IFLNK ? 0777 : 0755); }
 
-static void read_node(struct session *session, struct tree *tree, unsigned long parent, const char *name, unsigned long *last);
+static void read_node(struct session *session, struct tree *tree, unsigned long parent, const char *name,
+                      unsigned long *last);
 
 static void read_names(struct session *session, struct tree *tree, unsigned long directory, unsigned long *last) {
     char path[PATH_ROOM], *rest;
@@ -61,7 +60,8 @@ static void read_names(struct session *session, struct tree *tree, unsigned long
     free(names);
 }
 
-static void read_node(struct session *session, struct tree *tree, unsigned long parent, const char *name, unsigned long *last) {
+static void read_node(struct session *session, struct tree *tree, unsigned long parent, const char *name,
+                      unsigned long *last) {
     char path[PATH_ROOM], word[16];
     unsigned long number, size, links;
     if (path_below(&session->nodes, parent, name, path) != 0) give_up("the policy has a path that is too long");
@@ -84,9 +84,9 @@ static unsigned long read_policy_nodes(struct session *session, const char *prog
     snprintf(place, sizeof place, "/proc/self/fd/%d", session->policy);
     char *words[] = {"landtree", "run", "-", "--nodes", NODES_WORD, "--history", ENTRIES_WORD, "--policy", place,
                      "--explain", NULL};
-    tree_start(&tree, program, words, session->policy, session->options.wait);
+    tree_start(&tree, program, words, session->policy, BEGINNING_SECONDS);
     read_names(session, &tree, ROOT, &last);
-    tree_end(&tree, session->options.wait);
+    tree_end(&tree, BEGINNING_SECONDS);
     close(tree.messages);
     return last;
 }
@@ -116,8 +116,13 @@ static void write_path(FILE *text, const char *path) {
 }
 
 static void write_data(FILE *text, const char *bytes, size_t count) {
+    char digits[2 * PIECE_MOST];
     fputs("data = \"", text);
-    for (size_t i = 0; i < count; i++) fprintf(text, "%02x", (unsigned char)bytes[i]);
+    for (size_t at = 0, length; at < count; at += length) {
+        length = count - at < PIECE_MOST ? count - at : PIECE_MOST;
+        spell_bytes(digits, bytes + at, length);
+        fwrite(digits, 2, length, text);
+    }
     fputs("\"\n", text);
 }
 
@@ -134,8 +139,8 @@ static char *bytes_of(int directory, const char *name, const char *path, size_t 
         if (got < 0) misfit(path, strerror(errno));
         if (got == 0) break;
         *count += (size_t)got;
-        if (*count > most)
-            misfit(path, most == FILE_MOST ? "has over 65,536 bytes: --bytes mount takes larger files" : "is too large");
+        if (*count > most && most == FILE_MOST) misfit(path, "has over 65,536 bytes: --bytes mount takes larger files");
+        if (*count > most) misfit(path, "is too large");
     }
     close(file);
     return bytes;
@@ -244,7 +249,7 @@ static void take_real(struct beginning *it) {
     if (directory < 0 || fstat(directory, &attributes) != 0) give_up("--in %s: %s", real, strerror(errno));
     take_attributes(node_of(&it->session->nodes, ROOT), &attributes);
     take_directory(it, directory, ROOT, "/", 1);
-    if (it->links != 0) fault("--in: %u names of files with further names are files of their own here", it->links);
+    if (it->links != 0) report("--in: %u names of files with further names are files of their own here", it->links);
 }
 
 void prepare(struct session *session, const char *program) {

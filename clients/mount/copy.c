@@ -128,14 +128,14 @@ bool copy_tree(const struct session *session) {
     char draft[PATH_ROOM];
     draft_of(out, draft);
     if (!copy_directory(&copy, AT_FDCWD, draft, node_of(&session->nodes, ROOT))) {
-        fault("--out: %s: %s", draft, strerror(errno));
+        report("--out: %s: %s", draft, strerror(errno));
         return false;
     }
     free(copy.linked);
     copy_attributes(AT_FDCWD, draft, node_of(&session->nodes, ROOT));
-    if (copy.special != 0) fault("--out: %d devices are left out: only root may make them", copy.special);
+    if (copy.special != 0) report("--out: %d devices are left out: only root may make them", copy.special);
     if (copy.failed == NULL && rename(draft, out) == 0) return true;
-    if (copy.failed == NULL) fault("--out: %s can't become %s: %s", draft, out, strerror(errno));
-    else fault("--out: %s: %s; what could be copied is in %s", copy.failed, strerror(copy.why), draft);
+    if (copy.failed == NULL) report("--out: %s can't become %s: %s", draft, out, strerror(errno));
+    else report("--out: %s: %s; what could be copied is in %s", copy.failed, strerror(copy.why), draft);
     return false;
 }

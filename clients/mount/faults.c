@@ -11,7 +11,7 @@ static void write_line(const char *format, va_list words) {
     fprintf(stderr, "landtree-mount: %s\n", line);
 }
 
-void fault(const char *format, ...) {
+void report(const char *format, ...) {
     va_list words;
     va_start(words, format);
     write_line(format, words);

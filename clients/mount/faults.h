@@ -5,7 +5,7 @@
 #define OWN_FAULT 125
 #define WRONG_WORDS 2
 
-void fault(const char *format, ...) __attribute__((format(printf, 1, 2)));
+void report(const char *format, ...) __attribute__((format(printf, 1, 2)));
 
 /* Writes the line, and ends the process with the status of an own fault. */
 void give_up(const char *format, ...) __attribute__((format(printf, 1, 2), noreturn));

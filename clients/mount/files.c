@@ -46,8 +46,9 @@ static void leave_descriptor(struct session *session, unsigned opener, unsigned 
 /* The mode of an `open` line. */
 static void mode_of(int flags, bool creates, char mode[8]) {
     int access = flags & O_ACCMODE;
-    snprintf(mode, 8, "%s%s%s%s", access == O_RDONLY ? "r" : access == O_WRONLY ? "w" : "rw", flags & O_TRUNC ? "t" : "",
-             creates ? "c" : "", creates && flags & O_EXCL ? "x" : "");
+    const char *ways = access == O_RDONLY ? "r" : access == O_WRONLY ? "w" : "rw";
+    snprintf(mode, 8, "%s%s%s%s", ways, flags & O_TRUNC ? "t" : "", creates ? "c" : "",
+             creates && flags & O_EXCL ? "x" : "");
 }
 
 /* Opens a path, after `exec` if the kernel opens it for execution. */
@@ -79,7 +80,8 @@ static int open_node(struct session *session, const struct node *node, int flags
     return fault;
 }
 
-static void has_opened(struct session *session, struct node *node, struct opening *opening, struct fuse_file_info *file) {
+static void has_opened(struct session *session, struct node *node, struct opening *opening,
+                       struct fuse_file_info *file) {
     if (file->flags & O_TRUNC) {
         if (keeps(session)) keep_length(&session->nodes, node, 0);
         node->size = node->in_tree = 0;
@@ -101,7 +103,8 @@ static void open_file(fuse_req_t request, fuse_ino_t number, struct fuse_file_in
     fuse_reply_open(request, file);
 }
 
-static void create_file(fuse_req_t request, fuse_ino_t parent, const char *name, mode_t mode, struct fuse_file_info *file) {
+static void create_file(fuse_req_t request, fuse_ino_t parent, const char *name, mode_t mode,
+                        struct fuse_file_info *file) {
     struct session *session = session_of(request);
     char path[PATH_ROOM], spelled[SPELLED_ROOM], way[8];
     const char *reply = NULL;
@@ -148,18 +151,9 @@ static void close_file(fuse_req_t request, fuse_ino_t number, struct fuse_file_i
 
 /* ---- Bytes ---- */
 
-static int value(char digit) { return digit <= '9' ? digit - '0' : digit - 'a' + 10; }
-
-static size_t take_digits(const char *digits, char *bytes, size_t most) {
-    size_t count = 0;
-    if (*digits == '-') return 0;
-    for (; digits[0] != 0 && digits[1] != 0 && count < most; digits += 2)
-        bytes[count++] = (char)(value(digits[0]) << 4 | value(digits[1]));
-    return count;
-}
-
 /* Reads in pieces; all are sent before the first reply is awaited. */
-static int read_pieces(struct session *session, const struct opening *it, off_t from, size_t most, char *bytes, size_t *got) {
+static int read_pieces(struct session *session, const struct opening *it, off_t from, size_t most, char *bytes,
+                       size_t *got) {
     static const char data[] = "data ";
     size_t pieces = 0;
     int fault = 0;
@@ -171,7 +165,7 @@ static int read_pieces(struct session *session, const struct opening *it, off_t 
         int heard = hear(session, &reply);
         if (fault == 0) fault = heard;
         if (fault == 0 && strncmp(reply, data, strlen(data)) == 0)
-            *got += take_digits(reply + strlen(data), bytes + *got, most - *got);
+            *got += unspell_bytes(bytes + *got, most - *got, reply + strlen(data));
     }
     return fault;
 }
@@ -272,7 +266,8 @@ static bool add_entry(fuse_req_t request, struct session *session, const struct 
     return true;
 }
 
-static void read_directory(fuse_req_t request, fuse_ino_t number, size_t room, off_t from, struct fuse_file_info *file) {
+static void read_directory(fuse_req_t request, fuse_ino_t number, size_t room, off_t from,
+                           struct fuse_file_info *file) {
     struct session *session = session_of(request);
     struct opening *opening = opening_of(file);
     (void)number;

@@ -3,6 +3,7 @@
 #include "calls.h"
 #include "faults.h"
 #include "notices.h"
+#include "processes.h"
 #include <dirent.h>
 #include <errno.h>
 #include <fcntl.h>
@@ -114,13 +115,13 @@ static void become_command(struct session *session) {
     prctl(PR_SET_PDEATHSIG, SIGTERM);
     close(fuse_session_fd(session->fuse));
     if (chdir(session->root) != 0) {
-        fault("%s: %s", session->root, strerror(errno));
+        report("%s: %s", session->root, strerror(errno));
         _exit(OWN_FAULT);
     }
     setenv("PWD", session->root, 1);
     execvp(words[0], words);
     int why = errno;
-    fault("%s: %s", words[0], strerror(why));
+    report("%s: %s", words[0], strerror(why));
     _exit(why == ENOENT ? 127 : 126);
 }
 
@@ -166,12 +167,9 @@ static void name_user(const char *root, char user[128]) {
     DIR *processes = opendir("/proc");
     snprintf(user, 128, "a process");
     while (processes != NULL && (entry = readdir(processes)) != NULL) {
-        char path[64], name[64] = "?";
+        char name[PROCESS_ROOM];
         if (strspn(entry->d_name, "0123456789") != strlen(entry->d_name) || !uses(entry->d_name, root)) continue;
-        snprintf(path, sizeof path, "/proc/%.20s/comm", entry->d_name);
-        FILE *file = fopen(path, "re");
-        if (file != NULL && fgets(name, sizeof name, file) != NULL) name[strcspn(name, "\n")] = 0;
-        if (file != NULL) fclose(file);
+        name_of_process(atoi(entry->d_name), name);
         snprintf(user, 128, "%s[%.20s]", name, entry->d_name);
         break;
     }
@@ -189,15 +187,15 @@ static void unmount(const char *root) {
     }
     if (errno == EPERM) {
         execlp("fusermount3", "fusermount3", "-q", "-u", "-z", root, NULL);
-        fault("%s isn't unmounted: fusermount3: %s", root, strerror(errno));
+        report("%s isn't unmounted: fusermount3: %s", root, strerror(errno));
         _exit(STILL_MOUNTED);
     }
     name_user(root, user);
     if (umount2(root, UMOUNT_NOFOLLOW | MNT_DETACH) != 0) {
-        fault("%s isn't unmounted: %s", root, strerror(errno));
+        report("%s isn't unmounted: %s", root, strerror(errno));
         _exit(STILL_MOUNTED);
     }
-    fault("%s is still in use by %s: detached, and nothing is answered there any more", root, user);
+    report("%s is still in use by %s: detached, and nothing is answered there any more", root, user);
     _exit(DETACHED);
 }
 
@@ -205,7 +203,7 @@ static void start_unmounting(struct life *life) {
     if (life->unmounter != 0) return;
     life->unmounter = fork();
     if (life->unmounter < 0) {
-        fault("no process to unmount: %s", strerror(errno));
+        report("no process to unmount: %s", strerror(errno));
         life->is_detached = true;
     }
     if (life->unmounter != 0) return;
@@ -268,7 +266,7 @@ static void answer_requests(struct life *life) {
 /* Somebody else has unmounted it while CMD runs, or the connection was aborted. */
 static void await_command(struct life *life) {
     if (life->command == 0) return;
-    fault("%s was unmounted while the command runs", life->session->root);
+    report("%s was unmounted while the command runs", life->session->root);
     while (life->command != 0) {
         struct pollfd ready = {life->signals, POLLIN, 0};
         if (poll(&ready, 1, -1) > 0) take_signal(life);

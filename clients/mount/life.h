@@ -10,7 +10,7 @@ void enter_own_namespace(void);
 /* Mounts. Ends the process with a line if that fails. */
 void mount_tree(struct session *session);
 
-/* Runs CMD in the mount, or waits, and answers the kernel meanwhile; then unmounts. The status of CMD, 0 without one. */
+/* Runs CMD in the mount, or waits, and answers the kernel meanwhile; then unmounts. The status of CMD, or 0. */
 int live(struct session *session);
 
 #endif

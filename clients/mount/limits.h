@@ -21,4 +21,8 @@
 /* Bytes of all files that the mount keeps itself. */
 #define KEPT_MOST (1L << 30)
 
+/* Seconds for the tree to begin: with many bytes, its first reply takes long; and for saving the history at its end. */
+#define BEGINNING_SECONDS 300
+#define SAVING_SECONDS 300
+
 #endif

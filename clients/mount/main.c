@@ -11,9 +11,6 @@
 #include <string.h>
 #include <unistd.h>
 
-/* Seconds for saving the history, after which landtree is killed. */
-#define SAVING_MOST 120
-
 /* A file to write must be elsewhere: the tree would wait for the mount, and the mount for the tree. */
 static char *file_elsewhere(const char *option, const char *path, const char *root) {
     char *place = place_of_file(path);
@@ -40,19 +37,20 @@ static void start_tree(struct session *session, const char *program) {
     const struct options *options = &session->options;
     char place[64];
     snprintf(place, sizeof place, "/proc/self/fd/%d", session->policy);
-    char *words[16] = {"landtree", "run", "-", "--nodes", NODES_WORD, "--history", ENTRIES_WORD, "--policy", place, "--explain"};
+    char *words[16] = {"landtree",   "run",      "-",   "--nodes",  NODES_WORD, "--history",
+                       ENTRIES_WORD, "--policy", place, "--explain"};
     size_t count = 10;
     if (options->profile != NULL) words[count++] = "--profile", words[count++] = (char *)options->profile;
     if (options->save != NULL) words[count++] = "--save", words[count++] = (char *)options->save;
-    tree_start(&session->tree, program, words, session->policy, options->wait);
+    tree_start(&session->tree, program, words, session->policy, BEGINNING_SECONDS);
 }
 
 static void give_up_at_start(struct session *session, const char *reply) {
     const struct options *options = &session->options;
-    tree_end(&session->tree, options->wait);
+    tree_end(&session->tree, BEGINNING_SECONDS);
     const char *name = options->policy != NULL ? options->policy : "--in";
     const char *message = tree_message(&session->tree, session->policy, name);
-    give_up("%s", message != NULL ? message : reply != NULL ? reply : "landtree has ended before it began");
+    give_up("%s", message != NULL ? message : reply != NULL ? reply : "landtree hasn't begun");
 }
 
 /* The tree answers, under the profile, and numbers its nodes as the mount does. */
@@ -63,23 +61,24 @@ static void check_start(struct session *session) {
     for (int chain = 0; chain < CHAINS; chain++)
         for (struct node *it = session->nodes.chains[chain]; it != NULL; it = it->beside)
             if (it->number > last->number) last = it;
-    const char *name = last->names != NULL ? last->names->text : NULL;
-    if (path_below(&session->nodes, name != NULL ? last->names->parent : ROOT, name, path) != 0) give_up("a path is too long");
+    const struct name *name = last->names;
+    if (path_below(&session->nodes, name != NULL ? name->parent : ROOT, name != NULL ? name->text : NULL, path) != 0)
+        give_up("a path is too long");
     tree_say(&session->tree, "stat %s", path);
     reply = tree_hear(&session->tree, &call);
     snprintf(want, sizeof want, "stat %lu ", last->number);
     if (reply == NULL || strncmp(reply, want, strlen(want)) != 0) give_up_at_start(session, reply);
     message = tree_message(&session->tree, session->policy, "the policy");
-    if (message != NULL) fault("%s", message);
+    if (message != NULL) report("%s", message);
 }
 
 /* Ends the tree, so that the history is saved, and says what was lost. Whether nothing was. */
 static bool end_tree(struct session *session) {
-    bool was_lost = session->tree.is_lost, ended = tree_end(&session->tree, SAVING_MOST);
+    bool was_lost = session->tree.is_lost, ended = tree_end(&session->tree, SAVING_SECONDS);
     const char *message = tree_message(&session->tree, session->policy, "the policy"), *save = session->options.save;
-    if (message != NULL) fault("%s", message);
-    if (!ended && save != NULL) fault("%s isn't saved: its record, as %s.part, has what was answered", save, save);
-    else if (!ended && !was_lost) fault("landtree has ended badly");
+    if (message != NULL) report("%s", message);
+    if (!ended && save != NULL) report("%s isn't saved: its record, as %s.part, has what was answered", save, save);
+    else if (!ended && !was_lost) report("landtree has ended badly");
     return ended;
 }
 
@@ -87,7 +86,7 @@ static bool end_log(struct session *session) {
     if (session->log == NULL) return true;
     bool is_whole = !ferror(session->log);
     if (fclose(session->log) == 0 && is_whole) return true;
-    fault("--log %s isn't whole: %s", session->options.log, strerror(errno));
+    report("--log %s isn't whole: %s", session->options.log, strerror(errno));
     return false;
 }
 
@@ -95,12 +94,13 @@ int main(int count, char **words) {
     struct session *session = wanted(calloc(1, sizeof *session));
     read_options(&session->options, count, words);
     char *program = program_place(session->options.program);
-    session->told = wanted(calloc(KINDS_MOST, sizeof *session->told));
+    session->shown = wanted(calloc(KINDS_MOST, sizeof *session->shown));
     open_places(session);
     prepare(session, program);
     if (session->options.command != NULL) enter_own_namespace();
     start_tree(session, program);
     check_start(session);
+    tree_limit(&session->tree, session->options.wait);
     if (chdir("/") != 0) give_up("/: %s", strerror(errno));
     mount_tree(session);
     int status = live(session);

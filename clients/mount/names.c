@@ -54,8 +54,9 @@ static const struct name *name_looked_up(const struct session *session, const st
     for (size_t back = 1; back <= TRAILS && back <= session->next_trail; back++) {
         size_t place = (session->next_trail - back) % TRAILS;
         if (session->trails[place].asker != session->asker || session->trails[place].number != node->number) continue;
+        const char *text = session->trails[place].name;
         for (const struct name *it = node->names; it != NULL; it = it->next)
-            if (it->parent == session->trails[place].parent && strcmp(it->text, session->trails[place].name) == 0) return it;
+            if (it->parent == session->trails[place].parent && strcmp(it->text, text) == 0) return it;
     }
     return NULL;
 }
@@ -81,7 +82,8 @@ int paths_of(struct session *session, const struct node *node, char (**paths)[PA
 static void say_stat(struct session *session, const struct node *node, const char *path) {
     char reply[REPLY_ROOM] = "refused 3 ENOENT";
     if (node != NULL)
-        snprintf(reply, sizeof reply, "stat %lu %s %ld %lu", node->number, word_of(node->mode), (long)node->in_tree, node->links);
+        snprintf(reply, sizeof reply, "stat %lu %s %ld %lu", node->number, word_of(node->mode), (long)node->in_tree,
+                 node->links);
     char call[PATH_ROOM + sizeof "stat "];
     snprintf(call, sizeof call, "stat %s", path);
     tree_say(&session->tree, "%s", call);
@@ -170,7 +172,8 @@ static int cut(struct session *session, struct node *node, off_t length, const s
     return 0;
 }
 
-static void set_attributes(fuse_req_t request, fuse_ino_t number, struct stat *to, int set, struct fuse_file_info *file) {
+static void set_attributes(fuse_req_t request, fuse_ino_t number, struct stat *to, int set,
+                           struct fuse_file_info *file) {
     struct session *session = session_of(request);
     struct node *node = node_of(&session->nodes, number);
     int fault = node == NULL ? -ESTALE : set & FUSE_SET_ATTR_SIZE ? cut(session, node, to->st_size, file) : 0;
@@ -195,7 +198,8 @@ static void get_statistics(fuse_req_t request, fuse_ino_t number) {
     unsigned long blocks = 0, alive = nodes_alive(&session->nodes, &blocks);
     (void)number;
     unsigned long most = session->options.keeps_bytes ? KEPT_MOST / PIECE_MOST : NODES_MOST * (FILE_MOST / PIECE_MOST);
-    struct statvfs statistics = {.f_bsize = PIECE_MOST, .f_frsize = PIECE_MOST, .f_namemax = NAME_MOST, .f_files = NODES_MOST};
+    struct statvfs statistics = {.f_bsize = PIECE_MOST, .f_frsize = PIECE_MOST, .f_namemax = NAME_MOST};
+    statistics.f_files = NODES_MOST;
     statistics.f_ffree = statistics.f_favail = NODES_MOST - alive;
     statistics.f_blocks = most;
     statistics.f_bfree = statistics.f_bavail = blocks < most ? most - blocks : 0;
@@ -209,7 +213,7 @@ struct node *created(fuse_req_t request, const char *reply, unsigned long parent
     const struct node *directory = node_of(&session->nodes, parent);
     unsigned long number = 0;
     if (sscanf(reply, "stat %lu", &number) != 1 || node_of(&session->nodes, number) != NULL) {
-        fault("the tree answers %s of the new %s", reply, spelled);
+        report("the tree answers %s of the new %s", reply, spelled);
         return NULL;
     }
     struct node *node = add_node(&session->nodes, number, mode);
@@ -278,7 +282,9 @@ static void remove_name(fuse_req_t request, const char *call, fuse_ino_t parent,
     refuse(request, 0);
 }
 
-static void unlink_name(fuse_req_t request, fuse_ino_t parent, const char *name) { remove_name(request, "unlink", parent, name); }
+static void unlink_name(fuse_req_t request, fuse_ino_t parent, const char *name) {
+    remove_name(request, "unlink", parent, name);
+}
 
 static void remove_directory(fuse_req_t request, fuse_ino_t parent, const char *name) {
     remove_name(request, "rmdir", parent, name);
@@ -300,7 +306,7 @@ static void move_names(struct session *session, unsigned long parent, const char
     } else if (other != NULL) {
         has_left(session, other);
     }
-    if (!named) fault("no memory for the name %s", new_name);
+    if (!named) report("no memory for the name %s", new_name);
     has_changed(&session->nodes, parent);
     has_changed(&session->nodes, new_parent);
 }

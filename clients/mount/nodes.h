@@ -21,7 +21,7 @@ struct name {
 };
 
 struct node {
-    unsigned long number, links, lookups, openings; /* lookups: how often the kernel was given it, less what it forgot */
+    unsigned long number, links, openings, lookups; /* lookups: how often the kernel got it, less what it forgot */
     mode_t mode;
     uid_t owner;
     gid_t group;

@@ -55,7 +55,7 @@ struct notices *start_notices(struct fuse_session *fuse) {
 
 void add_notice(struct notices *notices, unsigned long parent, const char *spelled) {
     struct notice *notice = malloc(sizeof *notice + strlen(spelled) + 1);
-    if (notice == NULL) return fault("no memory to have the kernel look %s up anew", spelled);
+    if (notice == NULL) return report("no memory to have the kernel look %s up anew", spelled);
     notice->parent = parent, notice->next = NULL;
     strcpy(notice->name, spelled);
     pthread_mutex_lock(&notices->lock);

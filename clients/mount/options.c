@@ -27,14 +27,14 @@ static const char help[] =
     "  --bytes tree|mount  where the bytes of files are (tree)\n"
     "  --landtree PROGRAM  the program landtree (the one beside this program, or on the PATH)\n";
 
-static void refuse(const char *format, ...) __attribute__((format(printf, 1, 2), noreturn));
-static void refuse(const char *format, ...) {
+static void wrong(const char *format, ...) __attribute__((format(printf, 1, 2), noreturn));
+static void wrong(const char *format, ...) {
     char line[1024];
     va_list words;
     va_start(words, format);
     vsnprintf(line, sizeof line, format, words);
     va_end(words);
-    fault("%s", line);
+    report("%s", line);
     exit(WRONG_WORDS);
 }
 
@@ -59,13 +59,13 @@ static int take_value(struct values *values, char **words) {
         if (strlen(table[i].name) != length || strncmp(words[0], table[i].name, length) != 0) continue;
         const char **value = (const char **)((char *)values + table[i].place);
         const char *given = words[0][length] == '=' ? words[0] + length + 1 : words[1];
-        if (*value != NULL) refuse("%s is given twice", table[i].name);
+        if (*value != NULL) wrong("%s is given twice", table[i].name);
         if (given == NULL || *given == 0 || (given == words[1] && strncmp(given, "--", 2) == 0))
-            refuse("%s needs a value", table[i].name);
+            wrong("%s needs a value", table[i].name);
         *value = given;
         return words[0][length] == '=' ? 1 : 2;
     }
-    refuse("%s is no option: see landtree-mount --help", words[0]);
+    wrong("%s is no option: see landtree-mount --help", words[0]);
 }
 
 static int seconds(const char *text) {
@@ -73,13 +73,13 @@ static int seconds(const char *text) {
     errno = 0;
     long number = strtol(text, &end, 10);
     if (errno != 0 || end == text || *end != 0 || number < 1 || number > WAIT_MOST)
-        refuse("--wait %s: a number from 1 to %d is expected", text, WAIT_MOST);
+        wrong("--wait %s: a number from 1 to %d is expected", text, WAIT_MOST);
     return (int)number;
 }
 
 static bool is_mount(const char *bytes) {
     if (strcmp(bytes, "tree") != 0 && strcmp(bytes, "mount") != 0)
-        refuse("--bytes %s: tree or mount is expected", bytes);
+        wrong("--bytes %s: tree or mount is expected", bytes);
     return strcmp(bytes, "mount") == 0;
 }
 
@@ -90,19 +90,19 @@ static void read_words(struct options *options, struct values *values, char **wo
             exit(fflush(stdout) != 0 ? OWN_FAULT : 0);
         }
         if (strcmp(*words, "--quiet") == 0) {
-            if (options->is_quiet) refuse("--quiet is given twice");
+            if (options->is_quiet) wrong("--quiet is given twice");
             options->is_quiet = true;
             words++;
         } else if (strncmp(*words, "-", 1) == 0) {
             words += take_value(values, words);
         } else {
             if (options->directory != NULL)
-                refuse("%s: DIR is %s already, and CMD comes behind --", *words, options->directory);
+                wrong("%s: DIR is %s already, and CMD comes behind --", *words, options->directory);
             options->directory = *words++;
         }
     }
     if (*words == NULL) return;
-    if (words[1] == NULL) refuse("behind -- a command is expected");
+    if (words[1] == NULL) wrong("behind -- a command is expected");
     options->command = words + 1;
 }
 
@@ -116,6 +116,6 @@ void read_options(struct options *options, int count, char **words) {
     options->program = values.program;
     options->wait = values.wait != NULL ? seconds(values.wait) : 10;
     options->keeps_bytes = values.bytes != NULL && is_mount(values.bytes);
-    if (options->directory == NULL || *options->directory == 0) refuse("DIR is missing: see landtree-mount --help");
-    if (options->profile != NULL && options->policy == NULL) refuse("--profile needs --policy");
+    if (options->directory == NULL || *options->directory == 0) wrong("DIR is missing: see landtree-mount --help");
+    if (options->profile != NULL && options->policy == NULL) wrong("--profile needs --policy");
 }

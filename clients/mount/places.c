@@ -31,7 +31,8 @@ char *place_of_file(const char *path) {
     }
     const char *slash = strrchr(place, '/'), *name = slash != NULL ? slash + 1 : place;
     char *directory = beside(place, ".", next) ? realpath(next, NULL) : NULL;
-    if (directory == NULL || *name == 0 || strcmp(name, ".") == 0 || strcmp(name, "..") == 0) return free(directory), NULL;
+    bool is_name = *name != 0 && strcmp(name, ".") != 0 && strcmp(name, "..") != 0;
+    if (directory == NULL || !is_name) return free(directory), NULL;
     snprintf(whole, sizeof whole, "%s/%s", strcmp(directory, "/") != 0 ? directory : "", name);
     free(directory);
     return wanted(strdup(whole));

@@ -25,8 +25,8 @@ struct session {
     int policy;   /* the text that the tree begins with: a file without a name */
     pid_t asker;  /* the process, or thread, of the request at work */
     FILE *log;
-    char (*told)[KIND_ROOM]; /* the kinds of denials and limits that have had their line */
-    size_t told_count;
+    char (*shown)[KIND_ROOM]; /* the kinds of denials and limits that have had their line */
+    size_t shown_count;
     struct {
         pid_t asker;
         unsigned long number, parent;

@@ -1,4 +1,4 @@
-/* How names are spelled in the tree, as `python3 -m landtree convert` spells them. */
+/* How names and bytes are spelled in the tree; names as `landtree-sandbox convert` spells them. */
 #include "spelling.h"
 #include <stdio.h>
 #include <string.h>
@@ -30,4 +30,22 @@ void unspell(char *name) {
         }
     }
     *out = 0;
+}
+
+void spell_bytes(char *digits, const char *bytes, size_t count) {
+    static const char signs[] = "0123456789abcdef";
+    for (size_t i = 0; i < count; i++) {
+        *digits++ = signs[(unsigned char)bytes[i] >> 4];
+        *digits++ = signs[(unsigned char)bytes[i] & 15];
+    }
+}
+
+static int value(char sign) { return sign <= '9' ? sign - '0' : sign - 'a' + 10; }
+
+size_t unspell_bytes(char *bytes, size_t most, const char *digits) {
+    size_t count = 0;
+    if (*digits == '-') return 0;
+    for (; digits[0] != 0 && digits[1] != 0 && count < most; digits += 2)
+        bytes[count++] = (char)(value(digits[0]) << 4 | value(digits[1]));
+    return count;
 }

@@ -2,6 +2,7 @@
 #include "tree.h"
 #include "faults.h"
 #include "limits.h"
+#include "spelling.h"
 #include <errno.h>
 #include <fcntl.h>
 #include <poll.h>
@@ -39,8 +40,8 @@ static void become(const char *program, char *const words[], int policy, int end
     sigprocmask(SIG_SETMASK, &none, NULL);
     /* A session of its own: what the terminal's keys send isn't for it, so that it can still save. */
     setsid();
-    if (dup2(end, 0) < 0 || dup2(end, 1) < 0 || dup2(messages, 2) < 0 || fcntl(policy, F_SETFD, 0) != 0 || chdir("/") != 0)
-        _exit(OWN_FAULT);
+    if (dup2(end, 0) < 0 || dup2(end, 1) < 0 || dup2(messages, 2) < 0) _exit(OWN_FAULT);
+    if (fcntl(policy, F_SETFD, 0) != 0 || chdir("/") != 0) _exit(OWN_FAULT);
     execvp(program, words);
     dprintf(2, "%s: %s\n", program, strerror(errno));
     _exit(OWN_FAULT);
@@ -49,7 +50,6 @@ static void become(const char *program, char *const words[], int policy, int end
 void tree_start(struct tree *tree, const char *program, char *const words[], int policy, int wait) {
     int ends[2];
     memset(tree, 0, sizeof *tree);
-    tree->wait = wait;
     tree->in.bytes = wanted(malloc(REPLIES_ROOM));
     tree->messages = memfd_create("messages", MFD_CLOEXEC);
     /* Each line goes to the end of it, wherever this process reads. */
@@ -61,7 +61,12 @@ void tree_start(struct tree *tree, const char *program, char *const words[], int
     if (tree->child == 0) become(program, words, policy, ends[1], tree->messages);
     close(ends[1]);
     tree->socket = ends[0];
+    tree_limit(tree, wait);
+}
+
+void tree_limit(struct tree *tree, int wait) {
     struct timeval most = {wait, 0};
+    tree->wait = wait;
     if (setsockopt(tree->socket, SOL_SOCKET, SO_RCVTIMEO, &most, sizeof most) != 0)
         give_up("no time limit: %s", strerror(errno));
 }
@@ -78,7 +83,7 @@ static const char *first_line(const struct tree *tree, size_t from, char shown[S
 static void lose(struct tree *tree, const char *reason) {
     char shown[SHOWN + 1];
     if (!tree->is_lost && tree->is_mounted)
-        fault("%s (%s): every call fails now with EIO", reason, first_line(tree, tree->out.heard, shown));
+        report("%s (%s): every call fails now with EIO", reason, first_line(tree, tree->out.heard, shown));
     tree->is_lost = true;
     shutdown(tree->socket, SHUT_RDWR);
 }
@@ -121,16 +126,12 @@ void tree_say(struct tree *tree, const char *format, ...) {
 }
 
 void tree_say_bytes(struct tree *tree, const char *bytes, size_t count) {
-    static const char digits[] = "0123456789abcdef";
     if (tree->is_lost) return;
     tree->out.used--; /* the line feed comes behind them */
     char *line = room_for(tree, 2 * count + 1);
     if (line == NULL) return lose(tree, "no memory for a line");
-    for (size_t i = 0; i < count; i++) {
-        *line++ = digits[(unsigned char)bytes[i] >> 4];
-        *line++ = digits[(unsigned char)bytes[i] & 15];
-    }
-    *line = '\n';
+    spell_bytes(line, bytes, count);
+    line[2 * count] = '\n';
     tree->out.used += 2 * count + 1;
 }
 
@@ -257,7 +258,7 @@ bool tree_end(struct tree *tree, int seconds) {
     if (!ended) {
         kill(tree->child, SIGKILL);
         waitpid(tree->child, &status, 0);
-        if (!tree->is_lost) fault("landtree didn't end in %d s, and was killed", seconds);
+        if (!tree->is_lost) report("landtree didn't end in %d s, and was killed", seconds);
     }
     close(tree->socket);
     free(tree->in.bytes);

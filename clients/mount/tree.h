@@ -33,6 +33,9 @@ struct tree {
 /* Starts the child with these words; `policy` is a descriptor that it inherits. */
 void tree_start(struct tree *tree, const char *program, char *const words[], int policy, int wait);
 
+/* From now on a reply may take so many seconds. */
+void tree_limit(struct tree *tree, int wait);
+
 /* Puts a line behind those that are to be sent. Bytes are written as hexadecimal digits behind it. */
 void tree_say(struct tree *tree, const char *format, ...) __attribute__((format(printf, 2, 3)));
 void tree_say_bytes(struct tree *tree, const char *bytes, size_t count);
@@ -41,8 +44,8 @@ void tree_say_bytes(struct tree *tree, const char *bytes, size_t count);
  * that line. */
 const char *tree_hear(struct tree *tree, const char **call);
 
-/* Nobody awaits the reply of the line that was said, which can only be this one. (If another comes, the tree is lost.) It
- * is sent before the next line that has its reply awaited, or when there is nothing else to do. */
+/* Nobody awaits the reply of the line that was said, which can only be this one. (If another comes, the tree is lost.)
+ * It is sent before the next line that has its reply awaited, or when there is nothing else to do. */
 void tree_leave(struct tree *tree, const char *reply);
 bool tree_has_unsent(const struct tree *tree);
 void tree_send(struct tree *tree);

@@ -159,6 +159,10 @@ def denials_are_landlocks(room, seed):
     holds(re.search(r"^python3?\S*\[\d+\]: unlink /shut/f = ", log, re.MULTILINE), "the log names no process")
     room.wants_legal()
     same(room.run(*begin, "--quiet", command=room.inside("denials")).lines, [], "the lines with --quiet")
+    # A process may call itself whatever it likes.
+    shell = "cp $(command -v ls) ../$'\\e[1mls'; ../$'\\e[1mls'"
+    room.run("--log", "log", command=["bash", "-c", shell])
+    holds("\x1b" not in (room.folder / "log").read_text() and "?[1mls[" in (room.folder / "log").read_text(), "the log has an escape")
     # The log is added to.
     size = (room.folder / "log").stat().st_size
     room.run("--log", "log", command=["ls"])
