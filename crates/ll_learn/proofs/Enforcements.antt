@@ -46,7 +46,7 @@ use Rattle.ll_plain.proofs.Records.{no_denials}
 use Rattle.ll_why.proofs.AcceptedRules.{holds_taken}
 use Rattle.ll_learn.specs.declared.profile.LearnedProfile.{LearnedProfile}
 use Rattle.ll_learn.specs.declared.profile.LearnedRule.{LearnedRule}
-use Rattle.ll_learn.specs.Enforcement.{FitsRuleset, IsEnforced, acceptance, accepted_calls}
+use Rattle.ll_learn.specs.Enforcement.{FitsRuleset, IsEnforced, acceptance, accepted_calls, with_layer}
 use Rattle.ll_learn.specs.Lesson.{AreNamed, IsOfProfile, gives}
 use Rattle.ll_learn.specs.Profile.{call_of, calls_of}
 use Rattle.ll_learn.proofs.EarlierReach.{named_kind}
@@ -324,7 +324,6 @@ enforced s tree q there profile are may fits =
       accepted = goes.legal;
       layer = layer;
       spelt = spells profile;
-      state = goes.state ∙ sym (ap (λ (o : Option ClientRecord).
-          let c : ClientRecord = unwrap_or o new_client in
-          with_client s q (record c { domain = c.domain ++ layer ∷ []; rulesets = c.rulesets ++ layer ∷ [] })) there);
+      state = goes.state
+          ∙ sym (ap (λ (o : Option ClientRecord). with_client s q (with_layer (unwrap_or o new_client) layer)) there);
     }

@@ -5,6 +5,7 @@ use Rattle.ll_rules.specs.Layer.{Layer}
 use Rattle.ll_rules.specs.Rules.{create_refusals}
 use Rattle.ll_seq.specs.declared.call.Call.{Call}
 use Rattle.ll_seq.specs.declared.call.Call.TheVariants.{Ruleset}
+use Rattle.ll_seq.specs.declared.client.ClientRecord.{ClientRecord}
 use Rattle.ll_seq.specs.declared.reply.Entry.{Entry}
 use Rattle.ll_seq.specs.declared.reply.Reply.{Reply}
 use Rattle.ll_seq.specs.declared.reply.Reply.TheVariants.{Created, Done}
@@ -30,14 +31,15 @@ abbrev pub FitsRuleset : State → LearnedProfile → Type 0
 FitsRuleset s profile =
     (create_refusals s.rules.abi profile.handled.0 ≡ []) × (length profile.rules.items ≤ RULESET_INODES)
 
--- The profile's calls are accepted in this state. They leave the client with the profile's layer on top of its domain
--- and as its newest ruleset, and all else as it was
+-- the client with the layer on top of its domain, and as its newest ruleset
+abbrev pub with_layer : ClientRecord → Layer → ClientRecord
+with_layer c layer = record c { domain = c.domain ++ layer ∷ []; rulesets = c.rulesets ++ layer ∷ [] }
+
+-- The profile's calls are accepted in this state. They leave the client with the profile's layer, and change nothing
+-- else
 pub record IsEnforced (s : State) (client : ℕ) (profile : LearnedProfile) : Type 0 where
   pub accepted : IsLegal s (accepted_calls client (calls_of profile))
   pub layer : Layer
   pub spelt : IsOfProfile profile layer
   pub state : state_after s (accepted_calls client (calls_of profile))
-      ≡ with_client s client (record (client_of s client) {
-        domain = (client_of s client).domain ++ layer ∷ [];
-        rulesets = (client_of s client).rulesets ++ layer ∷ [];
-      })
+      ≡ with_client s client (with_layer (client_of s client) layer)
