@@ -48,20 +48,30 @@ def never(line):
     return "ok" if name in ("open", "read", "write", "list", "stat", "ruleset", "spawn") else "fd .."
 
 
+# Refusals that say nothing of a tree.
+NO_REFUSALS = ("refused 21 HistoryFull", "refused 21 ..", "refused 22 NoMemory", "refused 22 ..")
+
+
+def judge_vain(program, text, test, says):
+    """The test, which no tree's answer passes, is a wrong line behind this text."""
+    status, out, error = program.ran("check", "-", text=f"{text}{test}\n")
+    same((status, out), (2, ""), f"the checks before {test!r:.99}")
+    holds(says in error, f"a vain test is told as {error!r:.200}")
+
+
 def judge_checks(program, case, pairs):
-    """Each third reply is made a false one, and fails; of the others each fourth is told by its first word. A reply that
-    never comes is a wrong line."""
+    """Each third reply is made a false one, and fails; of the others each fourth is told by its first word. Only a whole
+    BadLine is met by a client that isn't there. A reply that never comes is a wrong line."""
     if not pairs:
         return
-    text = ""
+    text = f"@2 stat / = refused ..\n@2 stat / = {BAD}\n"
     for number, (line, reply) in enumerate(pairs, 1):
         short = f"{reply.split(' ')[0]} .." if number % 4 == 0 else reply
         text += f"{line} = {false_reply(reply) if number % 3 == 0 else short}\n"
-    failed = len(pairs) // 3
+    failed = len(pairs) // 3 + 1
     words = ["check", "-", "--quiet", "--nodes", str(case.nodes), "--abi", str(case.abi)]
-    out = program.lines(*words, text=text, status=3 if failed else 0)
-    same(out[-1:], [f"{len(pairs) - failed} passed, {failed} failed"], "the checks")
+    out = program.lines(*words, text=text, status=3)
+    same(out[-1:], [f"{len(pairs) + 2 - failed} passed, {failed} failed"], "the checks")
     last = pairs[-1][0]
-    status, out, error = program.ran("check", "-", text=f"{text}{last} = {never(last)}\n")
-    same((status, out), (2, ""), "the checks before a vain one")
-    holds("never answers so" in error, f"a vain test is told as {error!r:.200}")
+    judge_vain(program, text, f"{last} = {never(last)}", "never answers so")
+    judge_vain(program, text, f"{last} = {NO_REFUSALS[len(pairs) % 4]}", "never refuses so")

@@ -7,6 +7,7 @@ pub mod LastParts
 pub mod OutcomeTexts
 pub mod PolicyTexts
 pub mod RunRaces
+pub mod SectionNames
 pub mod StepLines
 pub mod Taught
 pub mod Tests
@@ -14,3 +15,4 @@ pub mod Told
 pub mod TreeAnswers
 pub mod Trials
 pub mod Verdicts
+pub mod Witnesses

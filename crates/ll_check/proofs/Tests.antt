@@ -168,12 +168,6 @@ says_late line body file profile r e silent is late = (
 
 -- ---- sections
 
-pub have_all : (name : List ℕ) (files : List ReadFile)
-    → list_any (λ (file : ReadFile). is_section name (tests_of file)) files
-    ≡ list_any (is_section name) (map tests_of files)
-have_all name [] = refl
-have_all name (file ∷ files) = ap (λ b. is_section name (tests_of file) || b) (have_all name files)
-
 pub no_section : (body : List ℕ) → ((rest : List ℕ) → body ≡ codes "[" ++ rest → ⊥) → (name : List ℕ)
     → SpellsSection body name → ⊥
 no_section body none name is = none (name ++ codes "]") is.1

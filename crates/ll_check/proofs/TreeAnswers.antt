@@ -1,5 +1,5 @@
 -- Each tree's answer to a command is one that it may have.
-use Rattle.std.specs.Prelude.{◌≡◌, ◌⊎◌, ℕ, Bool, true, false, not, ◌&&◌, ◌||◌, ◌==◌, List, [], ◌∷◌, ◌++◌, Option}
+use Rattle.std.specs.Prelude.{⊤, ◌≡◌, ◌⊎◌, ℕ, Bool, true, false, not, ◌&&◌, ◌||◌, ◌==◌, List, [], ◌∷◌, ◌++◌, Option}
 use Rattle.std.specs.Prelude.{None, Some}
 use Rattle.std.specs.Prelude.{map, refl, option_map, option_and_then, option_to_list, is_some, is_none}
 use Rattle.std.specs.List.{AllByRecursion, enumerate_from, flat_map}
@@ -14,7 +14,7 @@ use Rattle.ll_rights.specs.Right.{refer, all_rights}
 use Rattle.ll_rights.specs.Access.{holds}
 use Rattle.ll_rights.specs.Map.{get}
 use Rattle.ll_path.specs.Path.{Path, parent}
-use Rattle.ll_rights.specs.Errno.{refuse}
+use Rattle.ll_rights.specs.Errno.{errno_number, refuse}
 use Rattle.ll_decide.specs.declared.denial.Cause.{Cause}
 use Rattle.ll_decide.specs.declared.denial.Cause.TheVariants.{EACCES, EXDEV}
 use Rattle.ll_decide.specs.declared.denial.Denial.{Denial}
@@ -32,11 +32,14 @@ use Rattle.ll_seq.specs.declared.call.Mode.{Mode}
 use Rattle.ll_seq.specs.declared.reply.Reply.{Reply}
 use Rattle.ll_seq.specs.declared.reply.Reply.TheVariants.{Refused}
 use Rattle.ll_seq.specs.declared.reply.Reply.TheVariants as reply
-use Rattle.ll_wire.specs.FirstWords.{Begins, BeginsDenial}
+use Rattle.ll_seq.proofs.Settled.{Settles, step-settles}
+use Rattle.ll_wire.specs.FirstWords.{Begins, BeginsDenial, BeginsRefusal}
 use Rattle.ll_wire.specs.declared.first_words.FirstWords.{FirstWords}
 use Rattle.ll_wire.specs.declared.first_words.FirstWords.TheVariants as first
 use Rattle.ll_wire.specs.declared.first_words.DenialWords.{DenialWords}
 use Rattle.ll_wire.specs.declared.first_words.DenialWords.TheVariants as words
+use Rattle.ll_wire.specs.declared.first_words.RefusalWords.{RefusalWords}
+use Rattle.ll_wire.specs.declared.first_words.RefusalWords.TheVariants as refusal
 use Rattle.ll_check.specs.declared.wanted.Wanted.{Wanted}
 use Rattle.ll_check.specs.declared.wanted.Wanted.TheVariants.{Success, Allowed, Denied, DeniedRight, DeniedAt, Whole}
 use Rattle.ll_check.specs.declared.wanted.Wanted.TheVariants.{First}
@@ -48,7 +51,8 @@ use Rattle.ll_seq.specs.Stages.{number_refusals, relation_refusals, stages, text
 use Rattle.ll_seq.specs.State.{State, new_client}
 use Rattle.ll_seq.specs.Step.{client_of, first_or, step}
 use Rattle.ll_seq.specs.Tree.{kind_at, named}
-use Rattle.ll_check.specs.Possible.{AnswersFit, CanCome, MayAnswer, MayBeDenied, MayBegin, NeverComes}
+use Rattle.ll_check.specs.Possible.{AnswersFit, CanCome, MayAnswer, MayBeDenied, MayBeRefused, MayBegin, MayGet}
+use Rattle.ll_check.specs.Possible.{MayRefuse, NeverComes, form_of, success_of}
 use Rattle.ll_check.specs.Possible.{has_two_paths, is_asked, is_asked_old, is_deniable, may_deny, may_deny_right}
 use Rattle.ll_check.specs.Possible.{may_open}
 
@@ -411,8 +415,14 @@ unmapped : {A B : Type 0} (f : A → B) (xs : List A) → map f xs ≡ [] → xs
 unmapped f [] e = refl
 unmapped f (x ∷ xs) e = absurd cc
 
+-- the same with any refusal
+abbrev Fits : Call → Reply → Type 0
+Fits call (Refused errno) = ⊤
+Fits call (reply.Denied denial) = may_deny call denial.right denial.place ≡ true
+Fits call got = success_of call ≡ form_of got
+
 done : (s : State) (number fresh : ℕ) (c : ClientRecord) (at new : Path) (call : Call)
-    → MayAnswer call (effect s number c at new fresh call).0
+    → Fits call (effect s number c at new fresh call).0
 done s number fresh c at new (Make kind target) = refl
 done s number fresh c at new (Open mode target) = refl
 done s number fresh c at new (Read fd offset count) = refl
@@ -435,12 +445,12 @@ done s number fresh c at new (Confine number') = refl
 done s number fresh c at new Spawn = refl
 done s number fresh c at new Connect = refl
 
-pub answers_fit : AnswersFit
-answers_fit s number fresh call =
+fits : (s : State) (number fresh : ℕ) (call : Call) → Fits call (step s number call fresh).0
+fits s number fresh call =
     let c = client_of s number in
     let at = first_path call in
     let new = second_path call in
-    let P = MayAnswer call in
+    let P = Fits call in
     let existence = (stages s new_client at new call).existence in
     let early = map Refused (text_refusals call) ++ map Refused (number_refusals c call)
     ++ map Refused (relation_refusals call at new) ++ map Refused (walk_refusals s call) in
@@ -456,6 +466,36 @@ answers_fit s number fresh call =
     (denials_like s c call (unmapped Refused existence (no_more early (map Refused existence) none))))
     (refused (stages s c at new call).kinds) (refused (stages s c at new call).limits)
     (done s number fresh c at new call)
+
+-- the tree's refusals are its own
+settled : (call : Call) (got : Reply) → Fits call got → Settles got → MayAnswer call got
+settled call (Refused errno) fit own = own
+settled call reply.Done fit own = fit
+settled call (reply.Opened number) fit own = fit
+settled call (reply.Bytes bytes) fit own = fit
+settled call (reply.Wrote count) fit own = fit
+settled call (reply.Listed names) fit own = fit
+settled call (reply.Found status) fit own = fit
+settled call (reply.Created number) fit own = fit
+settled call (reply.Spawned number) fit own = fit
+settled call (reply.Denied denial) fit own = fit
+
+pub answers_fit : AnswersFit
+answers_fit s number fresh call =
+    settled call (step s number call fresh).0 (fits s number fresh call) (step-settles s number call fresh)
+
+-- a line may get what the tree answers
+gets : (call : Call) (got : Reply) → MayAnswer call got → MayGet call got
+gets call (Refused errno) may = inl may
+gets call reply.Done may = may
+gets call (reply.Opened number) may = may
+gets call (reply.Bytes bytes) may = may
+gets call (reply.Wrote count) may = may
+gets call (reply.Listed names) may = may
+gets call (reply.Found status) may = may
+gets call (reply.Created number) may = may
+gets call (reply.Spawned number) may = may
+gets call (reply.Denied denial) may = may
 
 -- ---- what is expected
 
@@ -515,7 +555,13 @@ denied_so call (words.Right cause layer right) d may is =
 denied_so call (words.Whole given) d may is =
     subst (λ (x : Denial). may_deny call x.right x.place ≡ true) is may
 
-begun : (call : Call) (begin : FirstWords) (got : Reply) → MayAnswer call got → Begins begin got → MayBegin call begin
+refused_so : (begin : RefusalWords) (errno : Errno) → MayRefuse (errno_number errno) → BeginsRefusal begin errno
+    → MayBeRefused begin
+refused_so refusal.Nothing errno may is = tt
+refused_so (refusal.Number number) errno may is = subst MayRefuse is may
+refused_so (refusal.Whole given) errno may is = subst (λ (e : Errno). MayRefuse (errno_number e)) is may
+
+begun : (call : Call) (begin : FirstWords) (got : Reply) → MayGet call got → Begins begin got → MayBegin call begin
 begun call first.Done reply.Done may is = may
 begun call (first.Opened number) (reply.Opened got) may is = may
 begun call (first.Bytes bytes) (reply.Bytes got) may is = may
@@ -524,27 +570,28 @@ begun call (first.Listed names) (reply.Listed got) may is = may
 begun call (first.Found begin) (reply.Found got) may is = may
 begun call (first.Created number) (reply.Created got) may is = may
 begun call (first.Spawned number) (reply.Spawned got) may is = may
-begun call (first.Refused begin) got may is = tt
+begun call (first.Refused begin) (Refused got) may is = refused_so begin got may is
 begun call (first.Denied begin) (reply.Denied got) may is = denied_so call begin got may is
 begun call begin got may is = absurd is
 
-comes : (call : Call) (wanted : Wanted) (got : Reply) → MayAnswer call got → Satisfies wanted got
+comes : (call : Call) (wanted : Wanted) (got : Reply) → MayGet call got → Satisfies wanted got
     → CanCome call wanted
 comes call Success got may is = tt
 comes call Allowed got may is = tt
 comes call Denied got may is =
-    deniable call is.0.right is.0.place (subst (MayAnswer call) is.1 may)
+    deniable call is.0.right is.0.place (subst (MayGet call) is.1 may)
 comes call (DeniedRight right) got may is =
     subst (λ (r : ℕ). may_deny_right call r ≡ true) is.2
-    (somewhere call is.0.right is.0.place (subst (MayAnswer call) is.1 may))
+    (somewhere call is.0.right is.0.place (subst (MayGet call) is.1 may))
 comes call (DeniedAt right place) got may is =
     subst (λ (p : Place). may_deny call right p ≡ true) is.3
-    (subst (λ (r : ℕ). may_deny call r is.0.place ≡ true) is.2 (subst (MayAnswer call) is.1 may))
-comes call (Whole given) got may is = subst (MayAnswer call) is may
+    (subst (λ (r : ℕ). may_deny call r is.0.place ≡ true) is.2 (subst (MayGet call) is.1 may))
+comes call (Whole given) got may is = subst (MayGet call) is may
 comes call (First begin) got may is = begun call begin got may is
 
 pub none_comes : (call : Call) (wanted : Wanted) → (CanCome call wanted → ⊥) → NeverComes call wanted
 none_comes call wanted never = (
-  λ s client fresh is. never (comes call wanted (step s client call fresh).0 (answers_fit s client fresh call) is),
-  λ errno is. never (comes call wanted (Refused errno) tt is),
+  λ s client fresh is. let got = (step s client call fresh).0 in
+      never (comes call wanted got (gets call got (answers_fit s client fresh call)) is),
+  λ errno may is. never (comes call wanted (Refused errno) may is),
 )

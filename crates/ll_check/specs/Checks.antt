@@ -1,9 +1,11 @@
 -- Files of checks: the sections and tests that their lines spell. own
 use Rattle.std.specs.Prelude.{◌≡◌, ℕ, ◌+◌, ◌==◌, ◌⊎◌, List, [], ◌∷◌, ◌++◌, length, slice_get, take, drop, Some, codes}
 use Rattle.std.specs.Prelude.{◌&&◌, ◌||◌, ◌≤◌, Bool, true, false, Option, None, if◌then◌else◌, is_some, map}
-use Rattle.std.specs.Prelude.{nat_le, not, option_map, string_bytes}
+use Rattle.std.specs.Prelude.{String, nat_le, not, option_map, string_bytes}
 use Rattle.std.specs.List.{list_all, list_any}
+use Rattle.std.specs.BTreeSet.{BTreeSet, contains_text}
 use Rattle.std.specs.Option.{option_map_or}
+use Rattle.std.specs.declared.alloc.Global.{Global}
 use Rattle.std.specs.Path.{rsplit_once}
 use Rattle.std.specs.Str.{IsUtf8, bytes_eq}
 use Rattle.ll_session.specs.declared.client_call.ClientCall.{ClientCall}
@@ -188,6 +190,11 @@ tests_of file = record {
 
 abbrev pub reading_of : ReadLines → Reading
 reading_of r = record { done = map tests_of r.done.items; last = tests_of r.last }
+
+-- the names are those of the sections
+abbrev pub AreNamed : (names : BTreeSet (String Global)) → Reading → Type 0
+AreNamed names r =
+    (section : List ℕ) → is_name section ≡ true → contains_text names section ≡ has_section r section
 
 -- the command ends here; after it come the sign and the expected reply
 abbrev pub SpellsAt : List ℕ → ℕ → Test → Type 0

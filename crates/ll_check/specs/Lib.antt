@@ -10,3 +10,4 @@ pub mod Report
 pub mod Steps
 pub mod Styles
 pub mod Wanted
+pub mod Witness

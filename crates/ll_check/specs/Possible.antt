@@ -1,6 +1,8 @@
 -- What a command may be answered, whatever the tree. own
-use Rattle.std.specs.Prelude.{⊤, ◌≡◌, ℕ, Bool, true, false, ◌&&◌, ◌||◌, ◌==◌}
+use Rattle.std.specs.Prelude.{⊤, ◌≡◌, ◌≤◌, ◌⊎◌, ℕ, Bool, true, false, ◌&&◌, ◌||◌, ◌==◌}
+use Rattle.ll_rights.specs.Errno.{errno_number}
 use Rattle.ll_rights.specs.declared.errno.Errno.{Errno}
+use Rattle.ll_rights.specs.declared.errno.Errno.TheVariants.{BadLine}
 use Rattle.ll_rights.specs.Kind.{make_right}
 use Rattle.ll_rights.specs.Right as right_of
 use Rattle.ll_decide.specs.declared.denial.Place.{Place}
@@ -19,6 +21,8 @@ use Rattle.ll_wire.specs.declared.first_words.FirstWords.{FirstWords}
 use Rattle.ll_wire.specs.declared.first_words.FirstWords.TheVariants as first
 use Rattle.ll_wire.specs.declared.first_words.DenialWords.{DenialWords}
 use Rattle.ll_wire.specs.declared.first_words.DenialWords.TheVariants as denial
+use Rattle.ll_wire.specs.declared.first_words.RefusalWords.{RefusalWords}
+use Rattle.ll_wire.specs.declared.first_words.RefusalWords.TheVariants as refusal
 use Rattle.ll_check.specs.declared.possible.Form.{Form}
 use Rattle.ll_check.specs.declared.possible.Form.TheVariants as form
 use Rattle.ll_check.specs.declared.wanted.Wanted.{Wanted}
@@ -90,6 +94,17 @@ is_deniable Spawn = false
 is_deniable Connect = false
 is_deniable _ = true
 
+-- ---- refusals
+
+-- the numbers of the tree's own refusals
+abbrev pub IsOwn : (number : ℕ) → Type 0
+IsOwn number = (3 ≤ number) × (number ≤ 20)
+
+-- A test may expect a refusal with this number: the tree's own, or BadLine (23), which a line gets if its client isn't
+-- there. HistoryFull (21) and NoMemory (22) say only that the check lacks room or memory, and nothing of the tree
+abbrev pub MayRefuse : (number : ℕ) → Type 0
+MayRefuse number = IsOwn number ⊎ (number ≡ errno_number BadLine)
+
 -- ---- replies
 
 -- the form of the command's reply if nothing is in its way
@@ -127,11 +142,23 @@ form_begun (first.Spawned number) = form.Spawned
 form_begun (first.Refused words) = form.Refused
 form_begun (first.Denied words) = form.Denied
 
--- The command may be answered so: refused, denied a right that a layer may deny it, or by its own form
+-- The tree may answer the command so: by a refusal of its own, a denial of a right that a layer may deny it, or the
+-- command's own form
 abbrev pub MayAnswer : Call → Reply → Type 0
-MayAnswer call (reply.Refused errno) = ⊤
+MayAnswer call (reply.Refused errno) = IsOwn (errno_number errno)
 MayAnswer call (reply.Denied denial) = may_deny call denial.right denial.place ≡ true
 MayAnswer call got = success_of call ≡ form_of got
+
+-- a line with the command may get this reply: such an answer, or BadLine
+abbrev pub MayGet : Call → Reply → Type 0
+MayGet call (reply.Refused errno) = MayRefuse (errno_number errno)
+MayGet call got = MayAnswer call got
+
+-- a refusal that a test may expect may begin so
+abbrev pub MayBeRefused : RefusalWords → Type 0
+MayBeRefused refusal.Nothing = ⊤
+MayBeRefused (refusal.Number number) = MayRefuse number
+MayBeRefused (refusal.Whole errno) = MayRefuse (errno_number errno)
 
 -- a denial of the command may begin so
 abbrev pub MayBeDenied : Call → DenialWords → Type 0
@@ -139,28 +166,28 @@ MayBeDenied call (denial.Right cause layer right) = may_deny_right call right �
 MayBeDenied call (denial.Whole given) = may_deny call given.right given.place ≡ true
 MayBeDenied call words = is_deniable call ≡ true
 
--- a reply to the command may begin so
+-- such a reply may begin so
 abbrev pub MayBegin : Call → FirstWords → Type 0
-MayBegin call (first.Refused words) = ⊤
+MayBegin call (first.Refused words) = MayBeRefused words
 MayBegin call (first.Denied words) = MayBeDenied call words
 MayBegin call words = success_of call ≡ form_begun words
 
--- a reply to the command may be as expected
+-- such a reply may be as expected
 abbrev pub CanCome : Call → Wanted → Type 0
 CanCome call Success = ⊤
 CanCome call Allowed = ⊤
 CanCome call Denied = is_deniable call ≡ true
 CanCome call (DeniedRight right) = may_deny_right call right ≡ true
 CanCome call (DeniedAt right place) = may_deny call right place ≡ true
-CanCome call (Whole given) = MayAnswer call given
+CanCome call (Whole given) = MayGet call given
 CanCome call (First words) = MayBegin call words
 
 -- every tree answers so
 abbrev pub AnswersFit : Type 0
 AnswersFit = (s : State) (client fresh : ℕ) (call : Call) → MayAnswer call (step s client call fresh).0
 
--- whatever the tree, neither its answer to the command nor a refusal by the session is as expected
+-- Whatever the tree, its answer to the command isn't as expected, and no refusal that a test may expect is
 abbrev pub NeverComes : Call → Wanted → Type 0
 NeverComes call wanted =
     ((s : State) (client fresh : ℕ) → Satisfies wanted (step s client call fresh).0 → ⊥)
-    × ((errno : Errno) → Satisfies wanted (reply.Refused errno) → ⊥)
+    × ((errno : Errno) → MayRefuse (errno_number errno) → Satisfies wanted (reply.Refused errno) → ⊥)

@@ -2,6 +2,7 @@
 //! wrote it.
 
 use crate::own_policy::policy_of;
+use crate::vain_replies::vain_text;
 use crate::wanted::{read_wanted, verdict_of};
 use ll_policy::rights_meant;
 use ll_program::body_of;
@@ -339,26 +340,6 @@ fn step<'a>(
     }
 }
 
-// Returns what is expected in place of a reply that a command with this name can't get, whatever the tree.
-fn answers_text(name: &str, is_denial: bool) -> &'static str {
-    match name {
-        "make" | "truncate" | "ftruncate" | "open" | "list" | "exec" | "unlink" | "rmdir"
-            if is_denial => { "this command never answers so: it doesn't ask for that right there" }
-        "rename" | "rename_noreplace" | "exchange" | "link" if is_denial => {
-            "this command never answers so: it doesn't ask for that right there"
-        }
-        "open" => "this command never answers so, but fd, denied or refused",
-        "list" => "this command never answers so, but names, denied or refused",
-        "read" => "this command never answers so, but data or refused",
-        "write" => "this command never answers so, but wrote or refused",
-        "stat" => "this command never answers so, but stat or refused",
-        "ruleset" => "this command never answers so, but ruleset or refused",
-        "spawn" => "this command never answers so, but client or refused",
-        "close" | "allow" | "confine" => "this command never answers so, but ok or refused",
-        _ => "this command never answers so, but ok, denied or refused",
-    }
-}
-
 // Blames a reply that can't come, if the text spells one.
 fn blame_vain(
     alloc: Global,
@@ -367,7 +348,7 @@ fn blame_vain(
     reply: &str,
 ) -> Result<Option<Blame>, AllocError> {
     match read_wanted(alloc, reply.as_bytes())? {
-        Some(wanted) => Ok(Some(Blame::new(column, answers_text(name, wanted.is_denial())))),
+        Some(wanted) => Ok(Some(Blame::new(column, vain_text(name, &wanted)))),
         None => Ok(None),
     }
 }

@@ -1,13 +1,14 @@
 //! Reads files of checks.
 
 ghost use Rattle.std.specs.Prelude.{◌≡◌, ◌==◌, ◌<◌, ◌≤◌, ℕ, [], List, length, map, not, IfErr, IfNone, IfOk, IfSome};
-ghost use Rattle.std.specs.Prelude.{MatchBool, None, OnOk};
+ghost use Rattle.std.specs.Prelude.{MatchBool, None, OnOk, bytes_eq, if◌then◌else◌, true};
+ghost use Rattle.std.specs.BTreeSet.{contains_text};
 ghost use Rattle.std.specs.List.{list_all, list_any};
 ghost use Rattle.ll_wire.specs.Pieces.{pieces};
 ghost use Rattle.ll_wire.specs.Reads.{Finds};
-ghost use Rattle.ll_check.specs.Checks.{AreSections, IsFirstBad, Own, SaysNothing, SpellsAt, SpellsCall};
+ghost use Rattle.ll_check.specs.Checks.{AreNamed, AreSections, IsFirstBad, Own, SaysNothing, SpellsAt, SpellsCall};
 ghost use Rattle.ll_check.specs.Checks.{SpellsSection, SpellsTest, TakesLine, all_of, at_start, has_own, has_section};
-ghost use Rattle.ll_check.specs.Checks.{has_test, is_at_head, is_blank, is_name, is_of_name, is_section, placed};
+ghost use Rattle.ll_check.specs.Checks.{has_test, is_at_head, is_blank, is_name, is_of_name, placed};
 ghost use Rattle.ll_check.specs.Checks.{reading_of, tests_of, with_own, with_section, with_test};
 ghost use Rattle.ll_check.specs.declared.check_text.CheckFault.{CheckFault};
 ghost use Rattle.ll_check.specs.declared.check_text.Test.{Test};
@@ -22,6 +23,7 @@ use ll_rights::limits::TREE_CLIENTS;
 use ll_session::ClientCall;
 use ll_wire::{read_command, split_line};
 use std::alloc::{AllocError, Global};
+use std::collections::BTreeSet;
 use std::mem;
 use thiserror::Error;
 
@@ -204,7 +206,7 @@ fn is_name(name: &[u8]) -> bool
 }
 
 // Returns the name of the section that begins here, if one does.
-fn section_of<'a>(body: &'a [u8]) -> Option<&'a [u8]>
+fn section_of<'a>(body: &'a [u8]) -> Option<&'a str>
     ensures found { IfSome result (λ name. SpellsSection body.entry.now name.now) }
     ensures none { IfNone result ((name : List ℕ) → SpellsSection body.entry.now name → ⊥) }
 {
@@ -214,7 +216,13 @@ fn section_of<'a>(body: &'a [u8]) -> Option<&'a [u8]>
     let Some(name) = strip_back(rest, b"]") else {
         return None;
     };
-    if is_name(name) { Some(name) } else { None }
+    if !is_name(name) {
+        return None;
+    }
+    match str::from_utf8(name) {
+        Ok(name) => Some(name),
+        Err(_) => unreachable!(),
+    }
 }
 
 impl ReadFile<'_> {
@@ -224,55 +232,60 @@ impl ReadFile<'_> {
     {
         self.section.is_empty() && self.is_at_head()
     }
+}
 
-    // Reports whether the section has this name.
-    fn is_section(&self, name: &[u8]) -> bool
-        ensures { result ≡ is_section name.now (tests_of self.now) }
-    {
-        self.section.as_slice() == name
+// Adds a section's name.
+fn add_name(names: &mut BTreeSet<String>, alloc: Global, name: &str) -> Result<(), CheckFault>
+    ensures ok { OnOk result ((other : List ℕ) → contains_text names.new other
+        ≡ (if bytes_eq name.now other then true else contains_text names.old other)) }
+    ensures err { IfErr result (λ fault. fault ≡ CheckFault.NoMemory) }
+{
+    let Ok(name) = String::from_str(alloc, name) else {
+        return Err(CheckFault::NoMemory);
+    };
+    match names.insert(name) {
+        Ok(_) => Ok(()),
+        Err(refused) => {
+            drop(refused);
+            Err(CheckFault::NoMemory)
+        }
     }
 }
 
-fn have_name(files: &[ReadFile<'_>], name: &[u8]) -> bool
-    ensures { result ≡ list_any (λ file. is_section name.now (tests_of file)) files.now }
-{
-    files.iter().any(|file| file.is_section(name))
-}
-
-fn have_section(files: &[ReadFile<'_>], name: &[u8]) -> bool
-    ensures { result ≡ list_any (is_section name.now) (map tests_of files.now) }
-{
-    have_name(files, name)
-}
-
-/// The sections of the lines so far: those before the last, and the last.
+/// The sections of the lines so far: those before the last, and the last. Also the names of all.
 #[derive(Drop)]
 pub(crate) struct ReadLines<'w> {
     done: Vec<ReadFile<'w>>,
     last: ReadFile<'w>,
+    names: BTreeSet<String>,
 }
 
 impl<'w> ReadLines<'w> {
     // Returns what no line has given yet.
     fn at_start(alloc: Global, file: &'w str) -> ReadLines<'w>
-        ensures { reading_of result ≡ at_start file.entry.now }
+        ensures lines { reading_of result ≡ at_start file.entry.now }
+        ensures named { AreNamed result.names (reading_of result) }
     {
         ReadLines {
             done: Vec::new(alloc),
             last: ReadFile::new(alloc, file, Vec::new(alloc)),
+            names: BTreeSet::new(alloc),
         }
     }
 
     // Reports whether a section has this name.
-    fn has_section(&self, name: &[u8]) -> bool
+    fn has_section(&self, name: &str) -> bool
+        requires named { AreNamed self.now.names (reading_of self.now) }
+        requires name { is_name name.now ≡ true }
         ensures { result ≡ has_section (reading_of self.now) name.now }
     {
-        have_section(self.done.as_slice(), name) || self.last.is_section(name)
+        self.names.contains(name)
     }
 
     // Adds the test to the last section.
     fn add_test(&mut self, test: Test) -> Result<(), CheckFault>
         ensures ok { OnOk result (reading_of self.new ≡ with_test (reading_of self.old) test) }
+        ensures names { self.new.names ≡ self.old.names }
         ensures err { IfErr result (λ fault. fault ≡ CheckFault.NoMemory) }
     {
         if let Err(refused) = self.last.checks.tests.push(test) {
@@ -292,6 +305,7 @@ impl<'w> ReadLines<'w> {
         ensures ok { OnOk result ((own : Own) × (own.line ≡ number)
             × (own.file ≡ placed (reading_of self.old).last.name words.now.file.now)
             × (own.profile ≡ words.now.profile.now) × (reading_of self.new ≡ with_own (reading_of self.old) own)) }
+        ensures names { self.new.names ≡ self.old.names }
         ensures err { IfErr result (λ fault. fault ≡ CheckFault.NoMemory) }
     {
         match OwnPolicy::new(alloc, self.last.name, number, words) {
@@ -304,11 +318,14 @@ impl<'w> ReadLines<'w> {
     }
 
     // Ends the last section, and begins one with this name.
-    fn add_section(&mut self, alloc: Global, name: &[u8]) -> Result<(), CheckFault>
+    fn add_section(&mut self, alloc: Global, name: &str) -> Result<(), CheckFault>
         ensures ok { OnOk result (reading_of self.new ≡ with_section (reading_of self.old) name.now) }
+        ensures names { OnOk result ((other : List ℕ) → contains_text self.new.names other
+            ≡ (if bytes_eq name.now other then true else contains_text self.old.names other)) }
         ensures err { IfErr result (λ fault. fault ≡ CheckFault.NoMemory) }
     {
-        let Ok(name) = Vec::from_slice(alloc, name) else {
+        add_name(&mut self.names, alloc, name)?;
+        let Ok(name) = Vec::from_slice(alloc, name.as_bytes()) else {
             return Err(CheckFault::NoMemory);
         };
         let next = ReadFile::new(alloc, self.last.name, name);
@@ -326,7 +343,9 @@ impl<'w> ReadLines<'w> {
 
     // Reads the line with this number.
     fn take(&mut self, alloc: Global, line: &[u8], number: usize) -> Result<(), CheckFault>
+        requires { AreNamed self.old.names (reading_of self.old) }
         ensures ok { OnOk result (TakesLine line.now number (reading_of self.old) (reading_of self.new)) }
+        ensures named { OnOk result (AreNamed self.new.names (reading_of self.new)) }
         ensures bad { IfErr result (λ fault. (k : ℕ) → fault ≡ CheckFault.BadLine k
             → (k ≡ number) × SaysNothing line.now (reading_of self.old)) }
     {
@@ -366,7 +385,11 @@ impl<'w> ReadLines<'w> {
         ensures files { IfOk result (λ files. map tests_of files.items ≡ all_of (reading_of self.entry)) }
         ensures err { IfErr result (λ fault. fault ≡ CheckFault.NoMemory) }
     {
-        let ReadLines { mut done, last } = self;
+        let ReadLines {
+            mut done,
+            last,
+            names: _,
+        } = self;
         if let Err(refused) = done.push(last) {
             drop(refused);
             return Err(CheckFault::NoMemory);

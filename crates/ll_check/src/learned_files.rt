@@ -26,7 +26,7 @@ use crate::runner::Runner;
 use crate::teacher::teach_all;
 use crate::trees::Trees;
 use crate::trial::pass_under;
-use crate::undenied::Candidate;
+use crate::undenied::{Candidate, TOLD_TESTS};
 use crate::untaught::Taught;
 use ll_learn::{Aim, Basis, LearnedProfile, Made, Unlearned, learn, made_rights};
 use ll_path::Path;
@@ -276,6 +276,7 @@ impl Lesson {
             },
             client: self.client,
             file: 0,
+            left: TOLD_TESTS,
         };
         pass_under(runner, trees, &candidate, files, err, notes)
     }

@@ -3,15 +3,16 @@
 ghost use Rattle.std.specs.Prelude.{◌≡◌, ◌↔◌, IsTrue};
 ghost use Rattle.ll_seq.specs.declared.call.Call as call_of;
 ghost use Rattle.ll_check.specs.declared.wanted.Wanted as wanted_of;
-ghost use Rattle.ll_check.specs.Possible.{AnswersFit, CanCome, MayAnswer, MayBeDenied, MayBegin, NeverComes};
+ghost use Rattle.ll_check.specs.Possible.{AnswersFit, CanCome, MayBeDenied, MayBeRefused, MayBegin, MayGet, MayRefuse};
+ghost use Rattle.ll_check.specs.Possible.{NeverComes};
 ghost use Rattle.ll_check.specs.Possible.{form_begun, form_of, has_two_paths, is_asked, is_asked_old, is_deniable};
 ghost use Rattle.ll_check.specs.Possible.{may_deny, may_deny_right, may_open, success_of};
 
 use crate::wanted::Wanted;
 use ll_decide::Place;
-use ll_rights::Right;
+use ll_rights::{Errno, Right};
 use ll_seq::{Call, Mode, Reply};
-use ll_wire::{DenialWords, FirstWords};
+use ll_wire::{DenialWords, FirstWords, RefusalWords};
 
 // Reports whether an opening like this may ask for the right.
 fn may_open(mode: Mode, right: Right) -> bool
@@ -163,12 +164,19 @@ fn form_begun(words: &FirstWords) -> Form
     }
 }
 
-// Reports whether the command may get this reply.
-fn may_answer(call: &Call, reply: &Reply) -> bool
-    ensures { IsTrue result ↔ MayAnswer call.now reply.now }
+// Reports whether a test may expect a refusal with this number.
+fn may_refuse(number: u64) -> bool
+    ensures { IsTrue result ↔ MayRefuse number }
+{
+    (3 <= number && number <= 20) || number == Errno::BadLine.number()
+}
+
+// Reports whether a line with the command may get this reply.
+fn may_get(call: &Call, reply: &Reply) -> bool
+    ensures { IsTrue result ↔ MayGet call.now reply.now }
 {
     match reply {
-        Reply::Refused(_) => true,
+        Reply::Refused(errno) => may_refuse(errno.number()),
         Reply::Denied(denial) => may_deny(call, denial.right, denial.place),
         given => success_of(call) == form_of(given),
     }
@@ -185,12 +193,23 @@ fn may_be_denied(call: &Call, words: &DenialWords) -> bool
     }
 }
 
+// Reports whether a refusal that a test may expect may begin so.
+fn may_be_refused(words: RefusalWords) -> bool
+    ensures { IsTrue result ↔ MayBeRefused words }
+{
+    match words {
+        RefusalWords::Nothing => true,
+        RefusalWords::Number(number) => may_refuse(number),
+        RefusalWords::Whole(errno) => may_refuse(errno.number()),
+    }
+}
+
 // Reports whether a reply to the command may begin so.
 fn may_begin(call: &Call, words: &FirstWords) -> bool
     ensures { IsTrue result ↔ MayBegin call.now words.now }
 {
     match words {
-        FirstWords::Refused(_) => true,
+        FirstWords::Refused(words) => may_be_refused(*words),
         FirstWords::Denied(denial) => may_be_denied(call, denial),
         given => success_of(call) == form_begun(given),
     }
@@ -205,7 +224,7 @@ pub(crate) fn can_come(call: &Call, wanted: &Wanted) -> bool
         Wanted::Denied => is_deniable(call),
         Wanted::DeniedRight(right) => may_deny_right(call, *right),
         Wanted::DeniedAt(right, place) => may_deny(call, *right, *place),
-        Wanted::Whole(reply) => may_answer(call, reply),
+        Wanted::Whole(reply) => may_get(call, reply),
         Wanted::First(words) => may_begin(call, words),
     }
 }

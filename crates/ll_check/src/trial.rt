@@ -22,13 +22,14 @@ use std::io::Write;
 fn passes_under<R: Runner, E: Write, N: Notes>(
     runner: &R,
     trees: &Trees<'_, '_>,
-    candidate: &Candidate<'_, '_>,
+    candidate: &mut Candidate<'_, '_>,
     file: &ReadFile<'_>,
     err: &mut E,
     notes: &mut N,
 ) -> Result<bool, Failure>
     ensures tried { IfOk result (HasTrial (learn_in trees.now.options.now) trees.now.policy.now
-        candidate.now.profile.now (tests_of file.now)) }
+        candidate.old.profile.now (tests_of file.now)) }
+    ensures same { candidate.new.profile ≡ candidate.old.profile }
     ensures failure { IfErr result (FailsToMake (learn_in trees.now.options.now) trees.now.policy.now) }
 {
     let tests = file.checks.tests.as_slice();
@@ -89,7 +90,7 @@ pub(crate) fn pass_under<R: Runner, E: Write, N: Notes>(
     let mut pass = true;
     let mut tried = *candidate;
     for file in files {
-        match passes_under(runner, trees, &tried, file, err, notes) {
+        match passes_under(runner, trees, &mut tried, file, err, notes) {
             Ok(passes) => pass = both(pass, passes),
             Err(failure) => return Err(failure),
         }

@@ -14,8 +14,8 @@ use ll_seq::Reply;
 use std::alloc::{AllocError, Global};
 use std::io::Write;
 
-/// The most tests of a file for which it is said. For each, what the lessons need is gathered again.
-const TESTS: usize = 20;
+/// The most tests of all files for which it is said. For each, what the lessons need is gathered again.
+pub(crate) const TOLD_TESTS: usize = 20;
 
 /// A profile to be tried on a file, and what it was learned from.
 #[derive(Clone, Copy)]
@@ -26,6 +26,8 @@ pub(crate) struct Candidate<'a, 'w> {
     pub client: u64,
     /// The file's index.
     pub file: usize,
+    /// For how many tests more it is said why they aren't denied.
+    pub left: usize,
 }
 
 /// Why a test isn't denied.
@@ -137,13 +139,14 @@ impl<'a, 'w> Candidate<'a, 'w> {
             taught: self.taught,
             client: self.client,
             file: self.file.saturating_add(1),
+            left: self.left,
         }
     }
 
     /// Prints why tests of the file that expect a denial aren't denied. It has these tests, with these replies. The
     /// basis is what the profile was learned from.
     pub fn tell<E: Write>(
-        &self,
+        &mut self,
         alloc: Global,
         basis: &Basis<'_>,
         tests: &[Test],
@@ -152,17 +155,19 @@ impl<'a, 'w> Candidate<'a, 'w> {
     )
         requires some { 1 ≤ basis.now.header.now.nodes }
         requires most { basis.now.header.now.nodes ≤ TREE_NODES }
+        ensures { self.new.profile ≡ self.old.profile }
     {
         let mut lessons: usize = 0;
-        let mut told: usize = 0;
+        let mut left = self.left;
         for (test, reply) in tests.iter().zip(replies) {
-            if is_undenied(test, reply) && told < TESTS {
-                told = told.saturating_add(1);
+            if is_undenied(test, reply) && 0 < left {
+                left = left.saturating_sub(1);
                 self.tell_one(alloc, basis, lessons, test, err);
             }
             if !test.wanted.is_denial() {
                 lessons = lessons.saturating_add(1);
             }
         }
+        self.left = left;
     }
 }

@@ -16,4 +16,5 @@ loop-rest-preserved c =
           (reading_of c.take.new.self) i.2 (omega (arith, i.3)) c.in_default.ensures.ok,
       omega (arith, long, i.3),
       omega (arith, i.4, c.split_line.ensures.shorter),
+      c.in_default.ensures.named,
     )
