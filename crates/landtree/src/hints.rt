@@ -10,9 +10,9 @@ use crate::misfits::Misfit;
 use crate::refusal::refused_text;
 use ll_audit::{Saved, Verdict};
 use ll_check::{Blame, DeniedTest, FaultyPolicy, LinesOf, Notes, ended, explain};
-use ll_commands::{ProfileNotes, flaw_of};
+use ll_commands::{ProfileNotes, escape_of, flaw_of};
 use ll_policy::{PlacedFault, Policy, policy_faults, read_document, toml_trouble};
-use ll_program::{Failure, Late, NewFile, Sources, body_of, is_silent};
+use ll_program::{Failure, Form, Late, NewFile, Sources, body_of, is_silent};
 use ll_rights::Errno;
 use ll_session::Refusal;
 use ll_why::{WhyStyle, explain_entry, why_not};
@@ -392,14 +392,19 @@ impl Hints {
         self.of_failure(failure, given);
     }
 
-    /// Adds which layer of the profile can't be exported, and why, if any.
-    pub fn of_flaw(&mut self, given: &Given<'_>) {
+    /// Adds which layer of the profile can't be exported in this form, and why, if any.
+    pub fn of_flaw(&mut self, form: Option<Form>, given: &Given<'_>) {
         if self.are_missing()
             && let Some(profile) = given.profile
             && let Ok(text) = str::from_utf8(given.text)
-            && let Some(flawed) = flaw_of(self.alloc, text, profile)
         {
-            self.add(&flawed);
+            if let Some(flawed) = flaw_of(self.alloc, text, profile) {
+                self.add(&flawed);
+            } else if form == Some(Form::C)
+                && let Some(escaped) = escape_of(self.alloc, text, profile)
+            {
+                self.add(&escaped);
+            }
         }
     }
 

@@ -171,7 +171,7 @@ impl Hints {
         };
         self.of_failure(failure, &given);
         if let Failure::CommandLine = failure {
-            self.of_flaw(&given);
+            self.of_flaw(options.form, &given);
         }
     }
 

@@ -7,8 +7,7 @@ use Rattle.ll_program.specs.declared.failure.Failure.{Failure}
 use Rattle.ll_program.specs.declared.failure.Failure.TheVariants.{CommandLine, File, NoMemory, Policy}
 use Rattle.ll_program.specs.Policy.{Lacks}
 use Rattle.ll_commands.specs.declared.confinement.Confinement.{Confinement}
-use Rattle.ll_commands.specs.Confinement.{is_enforceable}
-use Rattle.ll_commands.specs.Export.{IsOfPolicy, MayFail}
+use Rattle.ll_commands.specs.Export.{IsOfPolicy, MayFail, may_export}
 
 -- what a reader has left, if it tells it
 pub left : (o : Option (List ℕ)) → (text : List ℕ) × IfSome o (λ told. text ≡ told)
@@ -35,6 +34,6 @@ module _ (order : ExportOrder) (text : List ℕ) where
       subst (MayFail order text) (sym e) (λ run. subst (Lacks run text) e (lacks run))
 
   pub by_flaw : (f : Failure) (c : Confinement) → IsOfPolicy order.profile text c
-      → (f ≡ NoMemory) ⊎ ((f ≡ CommandLine) × (is_enforceable c ≡ false)) → MayFail order text f
+      → (f ≡ NoMemory) ⊎ ((f ≡ CommandLine) × (may_export order c ≡ false)) → MayFail order text f
   by_flaw f c is (inl e) = subst (MayFail order text) (sym e) tt
   by_flaw f c is (inr (e, flawed)) = subst (MayFail order text) (sym e) (inr (inr (c, is, flawed)))

@@ -1,5 +1,5 @@
 -- A profile of a policy, as a text for other programs. own
-use Rattle.std.specs.Prelude.{◌≡◌, ◌⊎◌, ⊤, ℕ, true, false, List, [], Some, None}
+use Rattle.std.specs.Prelude.{◌≡◌, ◌⊎◌, ⊤, ℕ, Bool, true, false, not, ◌&&◌, List, [], Some, None}
 use Rattle.std.specs.Str.{IsUtf8}
 use Rattle.toml.specs.Parse.{parse_document}
 use Rattle.ll_program.specs.declared.export.Form.{Form}
@@ -19,6 +19,7 @@ use Rattle.ll_program.specs.declared.conclusion.Conclusion.TheVariants as conclu
 use Rattle.ll_program.specs.Policy.{Lacks, profile_of}
 use Rattle.ll_commands.specs.declared.confinement.Confinement.{Confinement}
 use Rattle.ll_commands.specs.Confinement.{is_enforceable}
+use Rattle.ll_commands.specs.Escape.{are_escaped}
 use Rattle.ll_commands.specs.Json.{json_text}
 use Rattle.ll_commands.specs.CProgram.{c_text}
 
@@ -38,20 +39,24 @@ pub record IsOfPolicy (name text : List ℕ) (c : Confinement) : Type 0 where
   pub opening : c.opening.now ≡ plan.opening
   pub calls : Some (calls_of_layers 0 c.layers.now) ≡ profile_of (Some name) plan
 
--- the text asked for, if the policy's file has this text: of layers that can be enforced
+-- the layers can be enforced, and each program that enforces them takes a rule's path for the same file
+abbrev pub may_export : ExportOrder → Confinement → Bool
+may_export order c = is_enforceable c && not (are_escaped order.form c.layers.now)
+
+-- the text asked for, if the policy's file has this text: of layers that may be exported
 abbrev pub IsExport : ExportOrder → (text written : List ℕ) → Type 0
 IsExport order text written =
     (form : Form) × (c : Confinement) × (order.form ≡ Some form) × (fits_export order ≡ true)
-    × IsOfPolicy order.profile text c × (is_enforceable c ≡ true) × (written ≡ export_text order form c)
+    × IsOfPolicy order.profile text c × (may_export order c ≡ true) × (written ≡ export_text order form c)
 
--- Why nothing is written: words that don't go together; a profile that the policy doesn't have, or whose layers can't
--- be enforced; the first fault of the policy's text, which each run by it has too; a file that can't be read or
+-- Why nothing is written: words that don't go together; a profile that the policy doesn't have, or whose layers may not
+-- be exported; the first fault of the policy's text, which each run by it has too; a file that can't be read or
 -- written; NoMemory
 abbrev pub MayFail : ExportOrder → List ℕ → Failure → Type 0
 MayFail order text CommandLine =
     (fits_export order ≡ false)
     ⊎ ((plan : Plan) × IsPlanOf (parse_document text) plan × (profile_of (Some order.profile) plan ≡ None))
-    ⊎ ((c : Confinement) × IsOfPolicy order.profile text c × (is_enforceable c ≡ false))
+    ⊎ ((c : Confinement) × IsOfPolicy order.profile text c × (may_export order c ≡ false))
 MayFail order text (Policy fault) = (tree : TreeOrder) → Lacks tree text (Policy fault)
 MayFail order text (Opening refusal) = ⊥
 MayFail order text File = ⊤

@@ -2,6 +2,7 @@ pub mod CProgram
 pub mod Confinement
 pub mod Counts
 pub mod Difference
+pub mod Escape
 pub mod Export
 pub mod Fixed
 pub mod Json

@@ -8,11 +8,11 @@ ghost use Rattle.ll_program.specs.Options.{exported_in};
 ghost use Rattle.ll_program.specs.Failure.{EndsExport, IsOfExport};
 ghost use Rattle.ll_program.specs.declared.checked.Checked as checks;
 ghost use Rattle.ll_wire.specs.WriterGains.{AppendsFront};
-ghost use Rattle.ll_commands.specs.Confinement.{is_enforceable};
-ghost use Rattle.ll_commands.specs.Export.{IsExport, MayFail, ended_by, export_text};
+ghost use Rattle.ll_commands.specs.Export.{IsExport, MayFail, ended_by, export_text, may_export};
 
 use crate::c_program::c_text;
 use crate::confinement::{Confinement, FlawedProfile};
+use crate::escape::{EscapedRule, are_escaped, first_escaped};
 use crate::json::json_text;
 use ll_policy::Policy;
 use ll_program::{
@@ -37,7 +37,14 @@ fn text_of(
     }
 }
 
-// The layers in this form, if they have no flaw.
+// Reports whether the layers may be exported as the options ask.
+fn may_export(alloc: Global, options: &ExportOptions, confinement: &Confinement) -> bool
+    ensures { result ≡ may_export (exported_in options.now) confinement.now }
+{
+    confinement.flaw(alloc).is_none() && !are_escaped(options.form, confinement.layers)
+}
+
+// The layers in this form, if they may be exported.
 fn checked_text(
     alloc: Global,
     options: &ExportOptions,
@@ -46,11 +53,11 @@ fn checked_text(
 ) -> Result<String, Failure>
     ensures text { IfOk result (λ text. string_bytes text
         ≡ export_text (exported_in options.now) form confinement.now) }
-    ensures sound { OnOk result (is_enforceable confinement.now ≡ true) }
+    ensures sound { OnOk result (may_export (exported_in options.now) confinement.now ≡ true) }
     ensures failure { IfErr result (λ failure. (failure ≡ Failure.NoMemory)
-        ⊎ ((failure ≡ Failure.CommandLine) × (is_enforceable confinement.now ≡ false))) }
+        ⊎ ((failure ≡ Failure.CommandLine) × (may_export (exported_in options.now) confinement.now ≡ false))) }
 {
-    if confinement.flaw(alloc).is_some() {
+    if !may_export(alloc, options, confinement) {
         return Err(Failure::CommandLine);
     }
     match text_of(alloc, options, form, confinement) {
@@ -111,6 +118,13 @@ pub fn flaw_of<'a>(alloc: Global, text: &str, profile: &'a str) -> Option<Flawed
         name: profile,
         flaw,
     })
+}
+
+/// Returns the first rule of the profile of this name on whose path the C program and `landtree-sandbox exec` would
+/// disagree. None if there is none, or no such profile.
+pub fn escape_of<'a>(alloc: Global, text: &str, profile: &'a str) -> Option<EscapedRule<'a>> {
+    let policy = Policy::from_text(alloc, text).ok()?;
+    first_escaped(profile, policy.layers(profile)?)
 }
 
 /// Writes the text that the options ask for, given the policy file's bytes. Writes nothing before the text is complete.
