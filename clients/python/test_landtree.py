@@ -324,7 +324,10 @@ BEYOND_OPTIONS = [f"words-{it}" for it in ("history-no-number", "nodes-no-number
 BEYOND_OPTIONS += ["words-script-not-there", "save-over-the-script", "save-over-the-script-by-another-name"]
 
 # Runs whose profile asks for too much, so that a call of the opening is refused and no line is read.
-REFUSED_OPENINGS = ["policy-profile-call-refused", "policy-257-rules", "policy-seventeen-layers"]
+REFUSED_OPENINGS = [
+    *("policy-profile-call-refused", "policy-257-rules", "policy-seventeen-layers"),
+    *("policy-directory-right-of-a-file", "policy-rule-grants-nothing"),
+]
 
 
 class Scripts(Case):
