@@ -13,9 +13,8 @@ use Rattle.std.proofs.Math.Bool.{or-false}
 use Rattle.std.proofs.lemmas.Bool.{leb-true}
 use Rattle.std.proofs.lemmas.List.Folds.{list_any-append}
 use Rattle.std.proofs.lemmas.Str.{IsUtf8-from_ascii}
-use Rattle.ll_check.specs.Checks.{AreNamed, Own, Reading, Tests, at_start, has_section, is_at_head, is_blank, is_name}
-use Rattle.ll_check.specs.Checks.{is_of_name, is_section, with_own, with_section, with_test}
-use Rattle.ll_check.specs.declared.check_text.Test.{Test}
+use Rattle.ll_check.specs.Checks.{AreNamed, Reading, at_start, has_section, is_at_head, is_blank, is_name}
+use Rattle.ll_check.specs.Checks.{is_of_name, is_section, with_section}
 
 both_so : (a b : Bool) → (a && b) ≡ true → (a ≡ true) × (b ≡ true)
 both_so true b e = (refl, e)
@@ -46,14 +45,14 @@ unlike_empty : (section : List ℕ) → is_name section ≡ true → bytes_eq []
 unlike_empty [] is = absurd cc
 unlike_empty (b ∷ section) is = refl
 
-no_names : (names : BTreeSet (String Global)) (section : List ℕ) → IsEmpty names → contains_text names section ≡ false
+pub no_names : (names : BTreeSet (String Global)) (section : List ℕ) → IsEmpty names → contains_text names section ≡ false
 no_names names section empty =
     ap (list_any (is_at (λ (k : String Global). slice_cmp nat_cmp section (string_bytes k)))) empty
 
-pub none_named : (names : BTreeSet (String Global)) (r : Reading) (file : List ℕ) → IsEmpty names → r ≡ at_start file
-    → AreNamed names r
-none_named names r file empty e =
-    subst (AreNamed names) (sym e) (λ section is. no_names names section empty ∙ sym (unlike_empty section is))
+pub none_named : (names : BTreeSet (String Global)) (r : Reading) (file : List ℕ)
+    → ((name : List ℕ) → contains_text names name ≡ false) → r ≡ at_start file → AreNamed names r
+none_named names r file none e =
+    subst (AreNamed names) (sym e) (λ section is. none section ∙ sym (unlike_empty section is))
 
 empty_name : (name : List ℕ) → not (is_some (slice_get name 0)) ≡ true → name ≡ []
 empty_name [] e = refl
@@ -91,11 +90,3 @@ module _ (names names' : BTreeSet (String Global)) (before after : Reading) (are
       add section ∙ ap (λ b. if bytes_eq name section then true else b) (are section is)
       ∙ other_way before name section is (bytes_eq name section) (has_section before section)
       ∙ sym (one_section_more before name section is))
-
-  pub test_named : (test : Test) → names' ≡ names → after ≡ with_test before test → AreNamed names' after
-  test_named test same e = subst (λ (n : BTreeSet (String Global)). AreNamed n after) (sym same)
-      (subst (AreNamed names) (sym e) are)
-
-  pub own_named : (own : Own) → names' ≡ names → after ≡ with_own before own → AreNamed names' after
-  own_named own same e = subst (λ (n : BTreeSet (String Global)). AreNamed n after) (sym same)
-      (subst (AreNamed names) (sym e) are)

@@ -1,7 +1,7 @@
 //! Reads files of checks.
 
 ghost use Rattle.std.specs.Prelude.{◌≡◌, ◌==◌, ◌<◌, ◌≤◌, ℕ, [], List, length, map, not, IfErr, IfNone, IfOk, IfSome};
-ghost use Rattle.std.specs.Prelude.{MatchBool, None, OnOk, bytes_eq, if◌then◌else◌, true};
+ghost use Rattle.std.specs.Prelude.{MatchBool, None, OnOk, bytes_eq, false, if◌then◌else◌, true};
 ghost use Rattle.std.specs.BTreeSet.{contains_text};
 ghost use Rattle.std.specs.List.{list_all, list_any};
 ghost use Rattle.ll_wire.specs.Pieces.{pieces};
@@ -264,12 +264,13 @@ impl<'w> ReadLines<'w> {
     // Returns what no line has given yet.
     fn at_start(alloc: Global, file: &'w str) -> ReadLines<'w>
         ensures lines { reading_of result ≡ at_start file.entry.now }
-        ensures named { AreNamed result.names (reading_of result) }
+        ensures none { (name : List ℕ) → contains_text result.names name ≡ false }
     {
+        let names = BTreeSet::new(alloc);
         ReadLines {
             done: Vec::new(alloc),
             last: ReadFile::new(alloc, file, Vec::new(alloc)),
-            names: BTreeSet::new(alloc),
+            names,
         }
     }
 
@@ -284,8 +285,9 @@ impl<'w> ReadLines<'w> {
 
     // Adds the test to the last section.
     fn add_test(&mut self, test: Test) -> Result<(), CheckFault>
+        requires { AreNamed self.old.names (reading_of self.old) }
         ensures ok { OnOk result (reading_of self.new ≡ with_test (reading_of self.old) test) }
-        ensures names { self.new.names ≡ self.old.names }
+        ensures named { OnOk result (AreNamed self.new.names (reading_of self.new)) }
         ensures err { IfErr result (λ fault. fault ≡ CheckFault.NoMemory) }
     {
         if let Err(refused) = self.last.checks.tests.push(test) {
@@ -302,10 +304,11 @@ impl<'w> ReadLines<'w> {
         words: &PolicyWords<'_>,
         number: usize,
     ) -> Result<(), CheckFault>
+        requires { AreNamed self.old.names (reading_of self.old) }
         ensures ok { OnOk result ((own : Own) × (own.line ≡ number)
             × (own.file ≡ placed (reading_of self.old).last.name words.now.file.now)
             × (own.profile ≡ words.now.profile.now) × (reading_of self.new ≡ with_own (reading_of self.old) own)) }
-        ensures names { self.new.names ≡ self.old.names }
+        ensures named { OnOk result (AreNamed self.new.names (reading_of self.new)) }
         ensures err { IfErr result (λ fault. fault ≡ CheckFault.NoMemory) }
     {
         match OwnPolicy::new(alloc, self.last.name, number, words) {
@@ -320,11 +323,9 @@ impl<'w> ReadLines<'w> {
     // Ends the last section, and begins one with this name.
     fn add_section(&mut self, alloc: Global, name: &str) -> Result<(), CheckFault>
         ensures ok { OnOk result (reading_of self.new ≡ with_section (reading_of self.old) name.now) }
-        ensures names { OnOk result ((other : List ℕ) → contains_text self.new.names other
-            ≡ (if bytes_eq name.now other then true else contains_text self.old.names other)) }
+        ensures names { self.new.names ≡ self.old.names }
         ensures err { IfErr result (λ fault. fault ≡ CheckFault.NoMemory) }
     {
-        add_name(&mut self.names, alloc, name)?;
         let Ok(name) = Vec::from_slice(alloc, name.as_bytes()) else {
             return Err(CheckFault::NoMemory);
         };
@@ -338,6 +339,18 @@ impl<'w> ReadLines<'w> {
             drop(refused);
             return Err(CheckFault::NoMemory);
         }
+        Ok(())
+    }
+
+    // Begins a section with this name, which is one more.
+    fn begin_section(&mut self, alloc: Global, name: &str) -> Result<(), CheckFault>
+        requires { AreNamed self.old.names (reading_of self.old) }
+        ensures ok { OnOk result (reading_of self.new ≡ with_section (reading_of self.old) name.now) }
+        ensures named { OnOk result (AreNamed self.new.names (reading_of self.new)) }
+        ensures err { IfErr result (λ fault. fault ≡ CheckFault.NoMemory) }
+    {
+        self.add_section(alloc, name)?;
+        add_name(&mut self.names, alloc, name)?;
         Ok(())
     }
 
@@ -357,7 +370,7 @@ impl<'w> ReadLines<'w> {
             if self.has_section(name) {
                 return Err(CheckFault::BadLine(number));
             }
-            self.add_section(alloc, name)?;
+            self.begin_section(alloc, name)?;
             return Ok(());
         }
         if let Some(words) = policy_of(body) {

@@ -1,9 +1,22 @@
-use Rattle.std.proofs.Common.{◌≡◌, ◌+◌, ◌++◌, ◌∷◌, [], length, arith}
+use Rattle.std.proofs.Common.{◌≡◌, ◌+◌, ◌++◌, ◌∷◌, [], length, arith, refl}
 use Rattle.std.proofs.lemmas.List.{length-append}
 use Rattle.ll_check.specs.Checks.{reading_of}
+use Rattle.ll_check.proofs.SectionNames.{none_named}
 use Rattle.ll_check.proofs.Tests.{one_line_more}
 use Rattle.ll_check.proofs.Told.{cut_on}
 use Rattle.ll_check.proofs.check_text.read_sections.Goals as goal
+
+pub loop-rest-init : goal.loop-rest-init
+loop-rest-init c =
+    let starts = c.at_start-lines.ensures in (
+      [],
+      refl,
+      starts.lines,
+      refl,
+      omega arith,
+      none_named c.at_start-lines.result.names (reading_of c.at_start-lines.result) c.args.file.now starts.none
+          starts.lines,
+    )
 
 pub loop-rest-preserved : goal.loop-rest-preserved
 loop-rest-preserved c =
