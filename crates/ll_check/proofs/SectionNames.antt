@@ -45,7 +45,8 @@ unlike_empty : (section : List ℕ) → is_name section ≡ true → bytes_eq []
 unlike_empty [] is = absurd cc
 unlike_empty (b ∷ section) is = refl
 
-pub no_names : (names : BTreeSet (String Global)) (section : List ℕ) → IsEmpty names → contains_text names section ≡ false
+pub no_names : (names : BTreeSet (String Global)) (section : List ℕ) → IsEmpty names
+    → contains_text names section ≡ false
 no_names names section empty =
     ap (list_any (is_at (λ (k : String Global). slice_cmp nat_cmp section (string_bytes k)))) empty
 
