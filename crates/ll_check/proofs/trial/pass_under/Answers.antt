@@ -27,7 +27,7 @@ loop-file-preserved g c =
     subst (λ (p : Bor LearnedProfile). HasTrial order policy p.now (tests_of file) c.in-Ok.passes)
     c.loop-file.invariant.same c.in-Ok.ensures.tried in
     record {
-      same = c.next-tried.ensures ∙ c.loop-file.invariant.same;
+      same = c.next-tried.ensures ∙ c.passes_under.ensures.same ∙ c.loop-file.invariant.same;
       tried = subst (λ (x : List Tests). AreTried order policy profile x c.both-pass.result)
           (sym (one_more files i file c.loop-file-test.true c.file-item.is))
           (one_more_tried order policy profile (map tests_of (take i files)) (tests_of file) c.loop-file.pass
