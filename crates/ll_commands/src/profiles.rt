@@ -33,8 +33,6 @@ pub trait ProfileNotes {
 struct ReadPolicy<'a> {
     text: &'a [u8],
     policy: Policy,
-    ghost right: { IsPolicy text.now },
-    ghost plan: { IsPlanOf (parse_document text.now) policy },
 }
 
 // How the profile's rows are written among those of all.
@@ -85,7 +83,9 @@ fn rows_of(
     profile: &str,
     style: RowStyle,
 ) -> Result<String, Failure>
-    requires { paths.now ≡ map path_of_text (rights_in options.now).paths }
+    requires paths { paths.now ≡ map path_of_text (rights_in options.now).paths }
+    requires right { IsPolicy read.now.text.now }
+    requires plan { IsPlanOf (parse_document read.now.text.now) read.now.policy }
     ensures table { IfOk result (λ rows. IsTableIn style.entry (rights_in options.now) profile.now read.now.text.now
         (string_bytes rows)) }
     ensures failure { IfErr result (LacksTable (rights_in options.now) profile.now read.now.text.now) }
@@ -104,7 +104,9 @@ fn push_table(
     profile: &str,
     text: &mut String,
 ) -> Result<(), Failure>
-    requires { paths.now ≡ map path_of_text (rights_in options.now).paths }
+    requires paths { paths.now ≡ map path_of_text (rights_in options.now).paths }
+    requires right { IsPolicy read.now.text.now }
+    requires plan { IsPlanOf (parse_document read.now.text.now) read.now.policy }
     ensures table { OnOk result (AddsTables (rights_in options.now) read.now.text.now (profile.now ∷ [])
         (string_bytes text.old) (string_bytes text.new)) }
     ensures failure { IfErr result (LacksTable (rights_in options.now) profile.now read.now.text.now) }
@@ -126,7 +128,9 @@ fn tables_of<N: ProfileNotes>(
     profiles: &[&str],
     notes: &mut N,
 ) -> Result<String, Failure>
-    requires { paths.now ≡ map path_of_text (rights_in options.now).paths }
+    requires paths { paths.now ≡ map path_of_text (rights_in options.now).paths }
+    requires right { IsPolicy read.now.text.now }
+    requires plan { IsPlanOf (parse_document read.now.text.now) read.now.policy }
     ensures tables { IfOk result (λ text. AreTables (rights_in options.now) read.now.text.now
         (map (λ p. p.now) profiles.now) (string_bytes text)) }
     ensures failure { IfErr result
@@ -153,7 +157,9 @@ fn tables_by<N: ProfileNotes>(
     paths: &[Path],
     notes: &mut N,
 ) -> Result<String, Failure>
-    requires { paths.now ≡ map path_of_text (rights_in options.now).paths }
+    requires paths { paths.now ≡ map path_of_text (rights_in options.now).paths }
+    requires right { IsPolicy read.now.text.now }
+    requires plan { IsPlanOf (parse_document read.now.text.now) read.now.policy }
     ensures tables { IfOk result (λ tables.
         IsAllTables (rights_in options.now) read.now.text.now (string_bytes tables)) }
     ensures failure { IfErr result (LacksTables (rights_in options.now) read.now.text.now) }

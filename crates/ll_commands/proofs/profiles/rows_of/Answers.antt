@@ -17,7 +17,7 @@ returns-in_err-setup-clause-failure c =
     rw same (let order = rights_in c.args.options.now in
     let read = c.args.read.now in
     by_plan order.paths (table_tree order c.args.profile.now) read.text.now read.policy c.in_err-setup.field-0.0
-    read.plan
+    c.requires.plan
     (subst (λ (o : TreeOrder). (c.in_err-setup.field-0.0 ≡ NoMemory)
     ⊎ ((c.in_err-setup.field-0.0 ≡ CommandLine) × (profile_of o.profile read.policy ≡ None)))
     c.of_profile-tree.ensures c.in_err-setup.ensures.failure))
@@ -27,7 +27,7 @@ returns-clause-table c =
     let order = rights_in c.args.options.now in
     let read = c.args.read.now in
     let set = set_by c.of_profile-tree.result (table_tree order c.args.profile.now) order.policy read.text.now
-    read.policy c.in_ok-setup.setup c.of_profile-tree.ensures refl read.right read.plan c.in_ok-setup.ensures.nodes
+    read.policy c.in_ok-setup.setup c.of_profile-tree.ensures refl c.requires.right c.requires.plan c.in_ok-setup.ensures.nodes
     c.in_ok-setup.ensures.history c.in_ok-setup.ensures.setup in
     IfOk-weaker c.table_of.result _ _ (λ rows is. (
       c.in_ok-setup.setup,
@@ -36,7 +36,7 @@ returns-clause-table c =
       set,
       is.2,
       subst (λ (ps : List Path). AreRows is.1 (client_of is.1 is.0).domain c.args.style
-          (paths_or_nodes ps (loader_calls c.in_ok-setup.setup)) (string_bytes rows)) c.requires is.3,
+          (paths_or_nodes ps (loader_calls c.in_ok-setup.setup)) (string_bytes rows)) c.requires.paths is.3,
     )) c.table_of.ensures.table
 
 pub returns-clause-failure : goal.returns-clause-failure
@@ -44,7 +44,7 @@ returns-clause-failure c =
     let order = rights_in c.args.options.now in
     let read = c.args.read.now in
     let set = set_by c.of_profile-tree.result (table_tree order c.args.profile.now) order.policy read.text.now
-    read.policy c.in_ok-setup.setup c.of_profile-tree.ensures refl read.right read.plan c.in_ok-setup.ensures.nodes
+    read.policy c.in_ok-setup.setup c.of_profile-tree.ensures refl c.requires.right c.requires.plan c.in_ok-setup.ensures.nodes
     c.in_ok-setup.ensures.history c.in_ok-setup.ensures.setup in
     IfErr-weaker c.table_of.result _ _ (λ failure fails.
     by_opening order.paths (table_tree order c.args.profile.now) read.text.now c.in_ok-setup.setup failure set fails)

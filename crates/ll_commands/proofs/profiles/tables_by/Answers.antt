@@ -10,10 +10,10 @@ returns-in-Ok-clause-tables g c =
     let read = c.args.read.now in
     let names = ap (map (λ (p : Bor (List ℕ)). p.now)) c.as_slice.ensures.value ∙ c.in-Ok.ensures in
     IfOk-weaker c.tables_of.result _ _ (λ text are. (
-      read.right,
+      c.requires.right,
       (
         read.policy,
-        read.plan,
+        c.requires.plan,
         subst (λ (ps : List (List ℕ)). AreTables (rights_in c.args.options.now) read.text.now ps
             (string_bytes text)) names are,
       ),
@@ -25,9 +25,9 @@ returns-in-Ok-clause-failure g c =
     let names = ap (map (λ (p : Bor (List ℕ)). p.now)) c.as_slice.ensures.value ∙ c.in-Ok.ensures in
     IfErr-weaker c.tables_of.result _ _ (λ failure stops. inr (inr (
       read.policy,
-      read.plan,
+      c.requires.plan,
       subst (λ (ps : List (List ℕ)). StopsAt (rights_in c.args.options.now) read.text.now ps failure) names stops,
     ))) c.tables_of.ensures.failure
 
-pub returns-clause-failure : goal.returns-clause-failure
-returns-clause-failure g c = inr (inl (λ tree. tt))
+pub returns-in-Err-clause-failure : goal.returns-in-Err-clause-failure
+returns-in-Err-clause-failure g c = inr (inl (λ tree. tt))
