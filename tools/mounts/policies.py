@@ -49,11 +49,11 @@ def rules_by_strace(room, command):
     """The rules that the package in Python learns from a run of the command in a copy of the directory."""
     copy = room.folder / "copy"
     shutil.copytree(room.folder / "real", copy, symlinks=True)
-    package = str(TOOLS.parent.parent / "clients/python")
-    env = {**os.environ, "PYTHONPATH": package, "PATH": f"{Path(room.program).parent}:{os.environ['PATH']}"}
+    sandbox = str(TOOLS.parent.parent / "clients/python/landtree-sandbox")
+    env = {**os.environ, "PATH": f"{Path(room.program).parent}:{os.environ['PATH']}"}
 
     def run(*words):
-        ran = subprocess.run([sys.executable, "-B", "-m", "landtree", *words], cwd=copy, env=env, capture_output=True, text=True)
+        ran = subprocess.run([sys.executable, "-B", "-I", "-S", sandbox, *words], cwd=copy, env=env, capture_output=True, text=True)
         same(ran.returncode, 0, f"how {words[0]} ends ({ran.stderr[-300:]})")
         return ran.stdout
 

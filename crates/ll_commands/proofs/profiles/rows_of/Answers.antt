@@ -27,8 +27,8 @@ returns-clause-table c =
     let order = rights_in c.args.options.now in
     let read = c.args.read.now in
     let set = set_by c.of_profile-tree.result (table_tree order c.args.profile.now) order.policy read.text.now
-    read.policy c.in_ok-setup.setup c.of_profile-tree.ensures refl c.requires.right c.requires.plan c.in_ok-setup.ensures.nodes
-    c.in_ok-setup.ensures.history c.in_ok-setup.ensures.setup in
+    read.policy c.in_ok-setup.setup c.of_profile-tree.ensures refl c.requires.right c.requires.plan
+    c.in_ok-setup.ensures.nodes c.in_ok-setup.ensures.history c.in_ok-setup.ensures.setup in
     IfOk-weaker c.table_of.result _ _ (λ rows is. (
       c.in_ok-setup.setup,
       is.0,
@@ -44,8 +44,8 @@ returns-clause-failure c =
     let order = rights_in c.args.options.now in
     let read = c.args.read.now in
     let set = set_by c.of_profile-tree.result (table_tree order c.args.profile.now) order.policy read.text.now
-    read.policy c.in_ok-setup.setup c.of_profile-tree.ensures refl c.requires.right c.requires.plan c.in_ok-setup.ensures.nodes
-    c.in_ok-setup.ensures.history c.in_ok-setup.ensures.setup in
+    read.policy c.in_ok-setup.setup c.of_profile-tree.ensures refl c.requires.right c.requires.plan
+    c.in_ok-setup.ensures.nodes c.in_ok-setup.ensures.history c.in_ok-setup.ensures.setup in
     IfErr-weaker c.table_of.result _ _ (λ failure fails.
     by_opening order.paths (table_tree order c.args.profile.now) read.text.now c.in_ok-setup.setup failure set fails)
     c.table_of.ensures.failure
