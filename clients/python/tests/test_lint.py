@@ -169,7 +169,8 @@ class ReadFiles(Case):
         writes = Rights.WRITE_FILE
         seen = Seen("run.log", ["/w/f", "/w/g"])
         found = beyond_findings("p", [Layer(writes, [Rule("/w", writes), Rule("/w/f", writes)])], seen)
-        self.assertEqual([str(it) for it in found], ["profile p: /w may be written, where the run only read g (run.log)"])
+        text = "profile p: /w may be written, where the run only read g (run.log)"
+        self.assertEqual([str(it) for it in found], [text])
         layer = Layer(writes | Rights.REMOVE_FILE | Rights.MAKE_REG, [Rule("/w/f", writes)])
         self.assertEqual(list(beyond_findings("p", [layer], seen)), [])
 
