@@ -47,7 +47,7 @@ class Denials(Verdicts):
         self.assertEqual(ended.returncode, 3, ended.stderr)
         denied = [it for it in self.told(ended) if it.startswith("it would be denied now: ")]
         self.assertTrue(any(f": {call}" in it and it.endswith(f": {error}") for it in denied), ended.stderr)
-        self.assertNotIn("each layer that lets it run so", ended.stderr)
+        self.assertNotIn("each layer over these rights that lets it run so", ended.stderr)
 
     def python(self, text):
         return f"/usr/bin/python3 -c '{text}' || true"
@@ -111,7 +111,7 @@ class Differences(Verdicts):
         self.assertEqual((ended.returncode, ended.stdout), (3, "same\none\nsame\ntwo\n"), ended.stderr)
         said = 'standard output differs in line 2: "one" without a layer, "two" under the profile'
         self.assertIn(said, self.told(ended))
-        self.assertNotIn("each layer that lets it run so", ended.stderr)
+        self.assertNotIn("each layer over these rights that lets it run so", ended.stderr)
 
     def test_standard_error(self):
         script = f"test -e {self.room}/again && echo 'no' >&2; : >>{self.room}/again; true"
@@ -125,7 +125,7 @@ class Differences(Verdicts):
         self.assertEqual(ended.returncode, 0, ended.stderr)
         self.assertEqual(ended.stdout.count("one\n"), 2)
         self.assertEqual(ended.stderr.splitlines()[:2], ["two", "two"])
-        self.assertIn("each layer that lets it run so", ended.stderr)
+        self.assertIn("each layer over these rights that lets it run so", ended.stderr)
         self.assertNotIn("compared", ended.stderr)
 
     def test_rules_whose_files_are_missing_then(self):
